@@ -4,24 +4,25 @@ ghost use mathlib.Core.Bool.{Bool, true};
 ghost use Prim.Native.Nat.{ℕ, _≤_};
 ghost use Rattle.calendars.specs.Sets.{next-member, Least};
 
+mod all_days;
 mod closed_days;
-mod plain;
 mod processing;
+mod weekdays;
 mod year_table;
 
+pub use all_days::AllDays;
+pub use all_days::AllDaysCalendar;
 pub use closed_days::ClosedDays;
 pub use closed_days::ClosedDaysCalendar;
 pub use closed_days::MOST_CLOSED_DAYS;
 pub use closed_days::entering_closes_one_day;
-pub use plain::AllDays;
-pub use plain::AllDaysCalendar;
-pub use plain::Weekdays;
-pub use plain::WeekdaysCalendar;
 pub use processing::UsableDays;
 pub use processing::count_open_days;
 pub use processing::earliest_processing_day;
 pub use processing::last_usable_day;
 pub use processing::usable_days;
+pub use weekdays::Weekdays;
+pub use weekdays::WeekdaysCalendar;
 pub use year_table::YearTable;
 pub use year_table::YearTableCalendar;
 

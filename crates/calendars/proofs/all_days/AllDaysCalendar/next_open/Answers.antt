@@ -4,7 +4,7 @@ use Rattle.std.specs.declared.option.Option.the-variants.{Some, None}
 use Rattle.std.proofs.shelf.Ways.{tells}
 use Rattle.calendars.specs.Sets.{Least, Within, all-days}
 use Rattle.calendars.proofs.Next.{named-from}
-use Rattle.calendars.proofs.plain.AllDaysCalendar.next_open.Needs as need
+use Rattle.calendars.proofs.all_days.AllDaysCalendar.next_open.Needs as need
 
 within : Within all-days
 within k t = grind (arith, tells)

@@ -6,7 +6,7 @@ use Rattle.std.specs.declared.option.Option.the-variants.{Some, None}
 use Rattle.std.proofs.shelf.Ways.{tells}
 use Rattle.calendars.specs.Sets.{Least, Within, next-member, week-days}
 use Rattle.calendars.proofs.Next.{named-from}
-use Rattle.calendars.proofs.plain.WeekdaysCalendar.next_open.Needs as need
+use Rattle.calendars.proofs.weekdays.WeekdaysCalendar.next_open.Needs as need
 
 within : Within week-days
 within k t = grind (arith, tells)
