@@ -17,6 +17,8 @@ pub use closed_days::ClosedDaysCalendar;
 pub use closed_days::MOST_CLOSED_DAYS;
 pub use closed_days::entering_closes_one_day;
 pub use processing::UsableDays;
+pub use processing::UsableDaysDebug;
+pub use processing::UsableDaysPartialEq;
 pub use processing::count_open_days;
 pub use processing::earliest_processing_day;
 pub use processing::last_usable_day;

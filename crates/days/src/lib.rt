@@ -8,7 +8,9 @@ pub use date::date_samples_hold;
 pub use date::read_date;
 pub use date::write_date;
 pub use weekday::Weekday;
+pub use weekday::WeekdayDebug;
 pub use weekday::WeekdayDisplay;
+pub use weekday::WeekdayPartialEq;
 pub use weekday::weekday_of;
 pub use year::Year;
 

@@ -1,0 +1,4 @@
+pub mod Judging
+pub mod Showing
+pub mod Tiling
+pub mod Walking

@@ -1,0 +1,4 @@
+pub mod Forms
+pub mod Kinds
+pub mod Lines
+pub mod Walks
