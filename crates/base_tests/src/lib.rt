@@ -2,4 +2,6 @@
 #[cfg(test)]
 mod calendar_tests;
 #[cfg(test)]
+mod cell_tests;
+#[cfg(test)]
 mod date_tests;

@@ -1,0 +1,4 @@
+pub mod Fronts
+pub mod Moves
+pub mod Outcomes
+pub mod TakenBack
