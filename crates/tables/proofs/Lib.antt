@@ -2,3 +2,4 @@ pub mod Judging
 pub mod Showing
 pub mod Tiling
 pub mod Walking
+pub mod Written

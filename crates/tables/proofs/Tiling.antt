@@ -60,7 +60,7 @@ fields-on (number m c rs ∷ t) ks place v a r =
     ap (fields-fault (number m c rs ∷ (t ++ ks)) place) (append-assoc (shown m (v .0)) (line t (v .1)) r)
     ∙ front-on (number m c rs) (v .0) (a .0) (line t (v .1) ++ r) (t ++ ks) place ∙ fields-on t ks (form-width m + place) (v .1) (a .1) r ∙ ap (λ n. fields-fault ks n r) (omega arith)
 
-fields-none : (t : Table) (place : ℕ) (v : Values t) → All-allowed t v → fields-fault t place (line t v) ≡ None
+pub fields-none : (t : Table) (place : ℕ) (v : Values t) → All-allowed t v → fields-fault t place (line t v) ≡ None
 unfolding fields-fault
 fields-none [] place v a = refl
 fields-none (fixed c bs ∷ ks) place v a = front-on (fixed c bs) tt tt (line ks v) ks place ∙ fields-none ks (length bs + place) v a

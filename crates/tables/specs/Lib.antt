@@ -1,4 +1,5 @@
 pub mod Forms
 pub mod Kinds
+pub mod Laying
 pub mod Lines
 pub mod Walks

@@ -1,0 +1,3 @@
+pub mod HeaderLaws
+pub mod UserLaws
+pub mod VolumeLaws

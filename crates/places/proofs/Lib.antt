@@ -1,0 +1,5 @@
+pub mod Fronting
+pub mod Givens
+pub mod Levels
+pub mod Meanings
+pub mod Unbroken

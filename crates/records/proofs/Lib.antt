@@ -1,0 +1,5 @@
+pub mod ContraLaws
+pub mod ContraReading
+pub mod Days
+pub mod Joining
+pub mod PaymentLaws

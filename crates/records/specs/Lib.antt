@@ -1,0 +1,2 @@
+pub mod Contras
+pub mod Payments
