@@ -1,3 +1,4 @@
 pub mod HeaderLaws
+pub mod Passing
 pub mod UserLaws
 pub mod VolumeLaws

@@ -15,54 +15,19 @@ use Rattle.std.proofs.shelf.Equals.{sameBytes-decides}
 use Rattle.terms.specs.declared.cause.InputCause.the-variants as cause
 use Rattle.terms.specs.declared.service.Service.{Service}
 use Rattle.terms.specs.declared.service.Service.the-variants.{Credits, Debits, FasterPayments}
-use Rattle.tables.specs.Forms.{read-form}
-use Rattle.tables.specs.Forms.Form.{dates}
-use Rattle.tables.specs.Kinds.{Rule, broken, broken-by, value-of}
 use Rattle.tables.specs.Walks.{after, field-reading, judged, part, placed, reading}
 use Rattle.tables.proofs.Written.{written-reads}
 use Rattle.fields.specs.Judging.{verdict}
 use Rattle.fields.specs.Words.{blank, choice, date, head}
 use Rattle.lines.specs.declared.fault.FieldFault.{FieldFault}
 use Rattle.lines.specs.declared.fault.FileFault.{FileFault}
-use Rattle.lines.specs.declared.fault.FileFault.the-variants.{DayNotOpen, DayOutOfRange}
 use Rattle.lines.specs.Faults.{fault-of, in-field, of-file}
 use Rattle.lines.specs.Feeds.{plain}
 use Rattle.lines.specs.Places.{place-reading}
 use Rattle.places.proofs.Unbroken.{Plain-kind, Plain-table, choice-plain, laid-plain, spare-plain}
 use Rattle.labels.specs.declared.user.Uhl1.{Uhl1}
 use Rattle.labels.specs.declared.user.Uhl1Context.{Uhl1Context}
-use Rattle.labels.specs.Users.{day-rules, labelled, only, uhl1, uhl1-fits, uhl1-line, uhl1-place, work}
-
--- A day that is read and then judged by rules is the day of a field with these rules.
-
-abbrev by-rules : List (Rule ℕ) → ℕ → ℕ → Result ℕ FileFault
-by-rules rs from d = placed fault-of (from + 1) (judged (broken rs d) d)
-
-by-form : (rs : List (Rule ℕ)) (from : ℕ) (o : Option ℕ) → placed fault-of (from + 1) (judged (broken-by cause.NoDate rs o) (value-of o)) ≡ after (placed fault-of (from + 1) (judged (broken-by cause.NoDate [] o) (value-of o))) (by-rules rs from)
-by-form rs from None = refl
-by-form rs from (Some d) = refl
-
-day-judged : (rs : List (Rule ℕ)) (from : ℕ) (l : List ℕ) → field-reading fault-of (date rs) from l ≡ after (field-reading fault-of (date []) from l) (by-rules rs from)
-unfolding field-reading reading
-day-judged rs from l = by-form rs from (read-form dates (part from (from + 6) l))
-
-module _ (test : ℕ → Bool) (usable : Bool) (from : ℕ) (l : List ℕ) where
-  abbrev Reads : Result ℕ FileFault → Type 0
-  Reads r = r ≡ field-reading fault-of (date (day-rules test usable)) from l
-
-  pub no-day : (e : FileFault) → Err e ≡ field-reading fault-of (date []) from l → Reads (Err e)
-  no-day e h = ap (λ (r : Result ℕ FileFault). after r (by-rules (day-rules test usable) from)) h ∙ sym (day-judged (day-rules test usable) from l)
-
-  some-day : (d : ℕ) → Ok d ≡ field-reading fault-of (date []) from l → Reads (by-rules (day-rules test usable) from d)
-  some-day d read = ap (λ (r : Result ℕ FileFault). after r (by-rules (day-rules test usable) from)) read ∙ sym (day-judged (day-rules test usable) from l)
-
-  pub day-by : (d : ℕ) (b u : Bool) → Ok d ≡ field-reading fault-of (date []) from l → test d ≡ b → usable ≡ u → Reads (cond b (cond u (Ok d) (Err (DayNotOpen (from + 1)))) (Err (DayOutOfRange (from + 1))))
-  day-by d b u read t f = sym (by-tests (test d) usable b u t f) ∙ some-day d read
-    where
-      by-tests : (x y b u : Bool) → x ≡ b → y ≡ u → placed fault-of (from + 1) (judged (cond x (cond y None (Some cause.DayNotOpen)) (Some cause.DayOutOfRange)) d) ≡ cond b (cond u (Ok d) (Err (DayNotOpen (from + 1)))) (Err (DayOutOfRange (from + 1)))
-      by-tests true true b u e g = rw (sym e, sym g) refl
-      by-tests true false b u e g = rw (sym e, sym g) refl
-      by-tests false y b u e g = rw (sym e) refl
+use Rattle.labels.specs.Users.{labelled, only, uhl1, uhl1-fits, uhl1-line, uhl1-place, work}
 
 -- The work code.
 

@@ -6,15 +6,16 @@ use Prim.Native.Nat.{ℕ}
 use lib.Chars.{codes}
 use lib.Dec.{eqb, leb, ltb}
 use Rattle.std.specs.shelf.Text.{sameBytes}
-use Rattle.terms.specs.declared.cause.InputCause.the-variants.{DayNotOpen, DayOutOfRange, NotListed}
+use Rattle.terms.specs.declared.cause.InputCause.the-variants.{NotListed}
 use Rattle.terms.specs.declared.service.Service.{Service}
 use Rattle.terms.specs.declared.service.Service.the-variants.{Credits, Debits, FasterPayments}
-use Rattle.tables.specs.Kinds.{Kind, Rule}
+use Rattle.tables.specs.Kinds.{Kind}
 use Rattle.tables.specs.Kinds.Kind.{letters}
 use Rattle.tables.specs.Laying.{laid}
 use Rattle.tables.specs.Lines.{Table, All-allowed}
 use Rattle.fields.specs.Words.{blank, choice, date, digits-or-spaces, head, number, rule, spaces}
 use Rattle.lines.specs.Places.{Place, stands}
+use Rattle.places.specs.Given.{open-day-rules}
 use Rattle.labels.specs.declared.user.Uhl1.{Uhl1}
 use Rattle.labels.specs.declared.user.Uhl1Context.{Uhl1Context}
 
@@ -24,12 +25,8 @@ in-order Credits o c e d = leb c d && (ltb d e && ltb o d)
 in-order Debits o c e d = leb c d && (ltb d e && ltb o d)
 in-order FasterPayments o c e d = eqb c o && (eqb e o && eqb d o)
 
--- a day that passes the test, and is open
-abbrev pub day-rules : (ℕ → Bool) → Bool → List (Rule ℕ)
-day-rules test usable = rule DayOutOfRange test ∷ rule DayNotOpen (λ _. usable) ∷ []
-
 abbrev pub processing : Uhl1Context → Kind
-processing k = date (day-rules (in-order (k .service) (k .opening) (k .creation) (k .expiry)) (k .«open»))
+processing k = date (open-day-rules (in-order (k .service) (k .opening) (k .creation) (k .expiry)) (k .«open»))
 
 -- the kind of file
 abbrev pub work : Service → Bool → List ℕ

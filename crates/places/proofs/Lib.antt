@@ -1,3 +1,4 @@
+pub mod Days
 pub mod Fronting
 pub mod Givens
 pub mod Levels

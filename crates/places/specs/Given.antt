@@ -7,7 +7,7 @@ use Rattle.std.specs.declared.option.Option.{Option}
 use Rattle.std.specs.declared.option.Option.the-variants.{Some, None}
 use Rattle.std.specs.shelf.Text.{sameBytes}
 use Rattle.terms.specs.declared.cause.InputCause.{InputCause}
-use Rattle.terms.specs.declared.cause.InputCause.the-variants.{NotANumber, WrongCharacter, NotAtLeft, NoDate, Differs}
+use Rattle.terms.specs.declared.cause.InputCause.the-variants.{NotANumber, WrongCharacter, NotAtLeft, NoDate, DayOutOfRange, DayNotOpen, Differs}
 use Rattle.terms.specs.declared.service.Service.{Service}
 use Rattle.tables.specs.Forms.{Form}
 use Rattle.tables.specs.Forms.Form.{decimals, dates}
@@ -38,6 +38,10 @@ digits-given w o = number-given (decimals w) NotANumber [] o
 -- a day
 abbrev pub day-given : List (Rule ℕ) → Option ℕ → Kind
 day-given rs o = number-given dates NoDate rs o
+
+-- a day that passes the test, and is open
+abbrev pub open-day-rules : (ℕ → Bool) → Bool → List (Rule ℕ)
+open-day-rules test usable = rule DayOutOfRange test ∷ rule DayNotOpen (λ _. usable) ∷ []
 
 -- a filled text, and a text
 abbrev pub filled-given : Service → Option (List ℕ) → Kind

@@ -7,16 +7,15 @@ use lib.Dec.{leb}
 use Rattle.std.specs.Options.{mapped as if-some}
 use Rattle.std.specs.declared.option.Option.{Option}
 use Rattle.std.specs.declared.option.Option.the-variants.{Some, None}
-use Rattle.terms.specs.declared.cause.InputCause.the-variants.{DayNotOpen, DayOutOfRange}
 use Rattle.terms.specs.declared.service.Service.{Service}
 use Rattle.terms.specs.declared.service.Service.the-variants.{Credits}
 use Rattle.tables.specs.Kinds.{Keeps, Kind, Rule}
 use Rattle.tables.specs.Laying.{laid}
 use Rattle.tables.specs.Lines.{All-allowed, Table, Values, at-values}
 use Rattle.fields.specs.Judging.{code-text}
-use Rattle.fields.specs.Words.{amount, code, filled, filled-rules, free-format, head, number, reference, rule}
+use Rattle.fields.specs.Words.{amount, code, filled, filled-rules, free-format, head, number, reference}
 use Rattle.lines.specs.Places.{Place, stands}
-use Rattle.places.specs.Given.{day-given, digits-given, filled-given}
+use Rattle.places.specs.Given.{day-given, digits-given, filled-given, open-day-rules}
 use Rattle.records.specs.declared.payment.Accounts.{Accounts}
 use Rattle.records.specs.declared.payment.DatedPayment.{DatedPayment}
 use Rattle.records.specs.declared.payment.DayRule.{DayRule}
@@ -75,8 +74,11 @@ fixed-account o = digits-given 8 (if-some (λ x. x .account .value) o)
 abbrev pub fixed-name : Service → Option Originator → Kind
 fixed-name g o = filled-given g (if-some (λ x. x .name) o)
 
+abbrev pub in-range : ℕ → ℕ → ℕ → Bool
+in-range first last d = leb first d && leb d last
+
 abbrev pub range-rules : ℕ → ℕ → Bool → List (Rule ℕ)
-range-rules first last usable = rule DayOutOfRange (λ d. leb first d && leb d last) ∷ rule DayNotOpen (λ _. usable) ∷ []
+range-rules first last usable = open-day-rules (in-range first last) usable
 
 abbrev pub ranged-day : ℕ → ℕ → Bool → Kind
 ranged-day first last usable = day-given (range-rules first last usable) None

@@ -2,8 +2,8 @@ use mathlib.Core.Path.{_≡_, refl, sym}
 use mathlib.Core.Bool.{true, false}
 use Prim.Native.Nat.{ℕ}
 use borrow.Author.Needs.{needs}
+use Rattle.places.proofs.Days.{no-day, day-by}
 use Rattle.labels.specs.Users.{in-order}
-use Rattle.labels.proofs.UserLaws.{no-day, day-by}
 use Rattle.labels.proofs.user_line.read_processing_day.Needs as need
 
 pub returns-in-Break-day : need.returns-in-Break-day
