@@ -1,4 +1,6 @@
 //! Tests of days, calendars and the list, at their edges.
+#![tactic(auto)]
+
 #[cfg(test)]
 mod calendar_tests;
 #[cfg(test)]

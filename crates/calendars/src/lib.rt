@@ -1,4 +1,6 @@
 //! Calendars: each means one set of days, and answers whether a day is open and which open day comes next.
+#![tactic(auto)]
+
 ghost use Rattle.std.specs.Prelude.{◌≡◌, ℕ, ◌≤◌, Bool, true};
 ghost use Rattle.calendars.specs.Sets.{next_member, Least};
 

@@ -2,7 +2,7 @@
 use Rattle.std.proofs.Common.{◌≡◌, ℕ, ◌+◌, ◌-◌, ◌<◌, ◌≤◌, ◌≢◌, List, length, get_or, take, set, sym, ap, ◌∙◌, ⊎_elim, arith}
 use Rattle.std.specs.List.{insert, remove}
 use Rattle.std.proofs.lemmas.List.Edits.{length-insert, get_or-insert_at, get_or-insert_below, get_or-insert_above, length-remove, get_or-remove_below, get_or-remove_above}
-use Rattle.std.proofs.lemmas.List.{same_lists, length-set, length-take-le, get_or-set_same, get_or-set_other, get_or_take, get_or_read}
+use Rattle.std.proofs.lemmas.List.{same_lists, length-set, length-take-le, get_or-set_same, get_or-set_other, get_or-take, get_or_read}
 use Rattle.std.proofs.lemmas.Bool.{cases_eq, cases_lt}
 
 -- cells are was, with those from free up to last moved up by one
@@ -21,19 +21,19 @@ opened_all was cells i n x le lt o =
     (la ∙ sym (length-insert (take n was) i x li ∙ ap (λ m. m + 1) ln))
     (λ k d h.
     let kn : k < n + 1 = omega arith in
-    get_or_take (n + 1) (set cells i x) k d kn
+    get_or-take (n + 1) (set cells i x) k d kn
     ∙ ⊎_elim
     (λ (q : k ≡ i). rw q (get_or-set_same cells i x d (omega arith) ∙ sym (get_or-insert_at (take n was) i x d li)))
     (λ (ne : k ≢ i).
     get_or-set_other cells i k x d ne
     ∙ ⊎_elim
-    (λ (b : k < i). o.low k d (omega arith) ∙ sym (get_or-insert_below (take n was) i x d k b li ∙ get_or_take n was k d (omega arith)))
+    (λ (b : k < i). o.low k d (omega arith) ∙ sym (get_or-insert_below (take n was) i x d k b li ∙ get_or-take n was k d (omega arith)))
     (λ (b : i ≤ k).
     let up : i ≤ k - 1 = omega arith in
     let e : k - 1 + 1 ≡ k = omega arith in
     let at : get_or (insert (take n was) i x) k d ≡ get_or (take n was) (k - 1) d =
     ap (λ m. get_or (insert (take n was) i x) m d) (sym e) ∙ get_or-insert_above (take n was) i x d (k - 1) up li in
-    o.moved k d (omega arith) (omega arith) ∙ sym (at ∙ get_or_take n was (k - 1) d (omega arith)))
+    o.moved k d (omega arith) (omega arith) ∙ sym (at ∙ get_or-take n was (k - 1) d (omega arith)))
     (cases_lt k i))
     (cases_eq k i))
 
@@ -69,8 +69,8 @@ closed_all was cells i n lt le o =
     (omega arith)
     (λ k d h.
     let kn : k < n - 1 = omega arith in
-    get_or_take (n - 1) cells k d kn
+    get_or-take (n - 1) cells k d kn
     ∙ ⊎_elim
-    (λ (b : k < i). o.low k d b ∙ sym (get_or-remove_below (take n was) i d k b li ∙ get_or_take n was k d (omega arith)))
-    (λ (b : i ≤ k). o.moved k d b kn ∙ sym (get_or-remove_above (take n was) i d k b li ∙ get_or_take n was (k + 1) d (omega arith)))
+    (λ (b : k < i). o.low k d b ∙ sym (get_or-remove_below (take n was) i d k b li ∙ get_or-take n was k d (omega arith)))
+    (λ (b : i ≤ k). o.moved k d b kn ∙ sym (get_or-remove_above (take n was) i d k b li ∙ get_or-take n was (k + 1) d (omega arith)))
     (cases_lt k i))

@@ -1,4 +1,6 @@
 //! A list that lies in cells which its caller lends: whoever owns the memory says how many entries there may be.
+#![tactic(auto)]
+
 mod edits;
 mod fault;
 mod front;

@@ -1,4 +1,6 @@
 //! Days by number, from 0 to 36,524: their text in a file, their years and their weekdays.
+#![tactic(auto)]
+
 mod date;
 mod weekday;
 mod year;

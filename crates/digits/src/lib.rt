@@ -1,4 +1,6 @@
 //! Numbers in decimal digits, zeros in front, in a fixed number of places.
+#![tactic(auto)]
+
 ghost use Rattle.std.specs.Prelude.{◌≡◌, ◌^◌, ◌<◌, length, IfOk};
 ghost use Rattle.digits.specs.Decimal.{decimal, digits_reading, DigitLaws};
 

@@ -1,4 +1,6 @@
 //! Prints, for each service letter and opening date, the earliest processing day and the days that a file may use then.
+#![tactic(auto)]
+
 mod question;
 mod report;
 

@@ -1,4 +1,6 @@
 //! The fields of a line: what each may hold, judged and read from its bytes, and how it is written.
+#![tactic(auto)]
+
 mod amount;
 mod bank;
 mod character;

@@ -1,4 +1,6 @@
 //! The grammar of a whole file, and the laws of reading one: theorems, each the contract of a function.
+#![tactic(auto)]
+
 ghost use Rattle.grammar.specs.Laws.{MeaningLaw, ReadingLaw, WritingLaw};
 
 /// A file is accepted exactly if it belongs to the grammar, with what it says there, and any other bytes are refused with their first fault.

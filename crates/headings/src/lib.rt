@@ -1,4 +1,6 @@
 //! What a file says: its heading and its payments, as values; and why a call is refused.
+#![tactic(auto)]
+
 mod heading;
 mod refusal;
 mod row;

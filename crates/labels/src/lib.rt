@@ -1,4 +1,6 @@
 //! The labels before the batches of a file: VOL1, HDR1, HDR2 and UHL1.
+#![tactic(auto)]
+
 mod header;
 mod header_line;
 mod header_two;

@@ -1,5 +1,7 @@
 //! Reads lines of every kind from a table of cases, and prints of each whether it is taken, or why and where it is not.
 //! A case is `KIND SERVICE` or `KIND SERVICE CONTEXT`, a `|`, and the bytes of the line. A `~` at its end takes the line feed away.
+#![tactic(auto)]
+
 mod case;
 mod contexts;
 mod judge;

@@ -1,7 +1,7 @@
 -- A line that is written with its line feed is found and read again.
 use Rattle.std.proofs.Common.{◌≡◌, ℕ, ◌+◌, ◌<◌, Bool, true, false, cond, not, ◌&&◌, eqb, ltb, List, [], ◌∷◌, ◌++◌, length, get_or, take, drop, set, Some, None, Ok, Err, Option, Result, sym, refl, ap, ◌∙◌, add-zero, arith}
 use Rattle.std.proofs.lemmas.List.{drop_more, set_at, take_at}
-use Rattle.std.proofs.lemmas.Bool.{and_parts, cond_false, cond-true, eq-eqb, lt-ltb, not-true}
+use Rattle.std.proofs.lemmas.Bool.{and_parts, cond-false, cond-true, eq-eqb, lt-ltb, not-true}
 use Rattle.lines.specs.declared.fault.FileFault.{FileFault}
 use Rattle.lines.specs.Feeds.{feed_from, cut_reading, line_reading, plain, put_after}
 
@@ -10,7 +10,7 @@ pub feed_past : (xs zs : List ℕ) (n : ℕ) → plain xs ≡ true → feed_from
 feed_past [] zs n h = rw add-zero refl
 feed_past (x ∷ xs) zs n h =
     let p = and_parts (not (eqb x 10)) (plain xs) h in
-    cond_false (eqb x 10) (Some n) (feed_from (n + 1) (xs ++ 10 ∷ zs)) (not-true (eqb x 10) p.0) ∙ feed_past xs zs (n + 1) p.1 ∙ ap Some (omega arith)
+    cond-false (eqb x 10) (Some n) (feed_from (n + 1) (xs ++ 10 ∷ zs)) (not-true (eqb x 10) p.0) ∙ feed_past xs zs (n + 1) p.1 ∙ ap Some (omega arith)
 
 -- a line that was written says what was written
 pub line_back : {X : Type 0} (long : ℕ) (reading : List ℕ → Result X FileFault) (xs zs : List ℕ) (x : X) → plain xs ≡ true → length xs ≡ long → reading xs ≡ Ok x → line_reading long reading (xs ++ 10 ∷ zs) ≡ Ok x

@@ -1,4 +1,6 @@
 //! Lines of a file: what is wrong with one and where, and one reader and one writer for every kind of line.
+#![tactic(auto)]
+
 mod fault;
 mod line;
 mod telling;

@@ -1,4 +1,6 @@
 //! The parts of each line of a Bacs Standard 18 file, as slices of the caller's bytes, and a table of every field for people.
+#![tactic(auto)]
+
 mod kind;
 mod labels;
 mod line;

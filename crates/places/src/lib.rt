@@ -1,4 +1,6 @@
 //! Fields at their places in a line: read with their positions, and written from the left.
+#![tactic(auto)]
+
 mod cuts;
 mod fixed;
 mod given;

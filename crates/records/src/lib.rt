@@ -1,4 +1,6 @@
 //! The records of a batch: payments, and the contra that ends it.
+#![tactic(auto)]
+
 mod account;
 mod contra;
 mod contra_line;

@@ -1,4 +1,6 @@
 //! Tables of fields: what a line of a table says, what is wrong with one, and the laws of both.
+#![tactic(auto)]
+
 ghost use Rattle.tables.specs.Lines.{FaultLaw, LineLaw};
 
 /// For every table: a line has no fault exactly if it is the line of allowed values, and then what is read are those values,

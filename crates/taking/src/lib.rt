@@ -1,4 +1,6 @@
 //! One line read at the front of the bytes of a file, and which line comes next.
+#![tactic(auto)]
+
 mod expected;
 mod taken;
 

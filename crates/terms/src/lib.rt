@@ -1,4 +1,6 @@
 //! The words that every layer shares: the services, and why a call is refused.
+#![tactic(auto)]
+
 mod cause;
 mod service;
 

@@ -1,4 +1,6 @@
 //! The labels after the batches of a file: EOF1, EOF2 and UTL1. They repeat what the labels before the batches say, and add up the file.
+#![tactic(auto)]
+
 mod closing;
 mod closing_line;
 mod repeat_line;

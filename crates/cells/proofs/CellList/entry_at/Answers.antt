@@ -4,4 +4,4 @@ use Rattle.cells.specs.declared.fault.ListFault.TheVariants.{NoSuchRow}
 use Rattle.cells.proofs.CellList.entry_at.Goals as goal
 
 pub returns : goal.returns
-returns g c = c.ok-or.ensures.value ∙ ap (λ o. ok_or o NoSuchRow) c.get.ensures
+returns g c = c.ok_or.ensures.value ∙ ap (λ o. ok_or o NoSuchRow) c.get.ensures

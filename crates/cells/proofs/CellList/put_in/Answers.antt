@@ -6,9 +6,9 @@ use Rattle.cells.proofs.CellList.put_in.Goals as goal
 
 pub returns : goal.returns
 returns g c =
-    let cells = c.insert-into.new.cells in
+    let cells = c.insert_into.new.cells in
     record {
-      after = take-take _ 4000 cells (omega arith) ∙ c.insert-into.ensures.after ∙ sym (ap (λ (xs : List g.row.T.Denot). insert xs c.args.row c.args.entry) c.len-len.ensures.rows);
-      room = same_room cells c.args.self.now.cells.now c.insert-into.ensures.size;
+      after = take-take _ 4000 cells (omega arith) ∙ c.insert_into.ensures.after ∙ sym (ap (λ (xs : List g.row.T.Denot). insert xs c.args.row c.args.entry) c.len-len.ensures.rows);
+      room = same_room cells c.args.self.now.cells.now c.insert_into.ensures.size;
       lent = refl;
     }

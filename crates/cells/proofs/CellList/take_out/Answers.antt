@@ -7,10 +7,10 @@ use Rattle.cells.proofs.CellList.take_out.Goals as goal
 
 pub returns-then-row-len : goal.returns-then-row-len
 returns-then-row-len g c =
-    let cells = c.remove-from.new.cells in
+    let cells = c.remove_from.new.cells in
     record {
-      after = take-take _ 4000 cells (omega arith) ∙ c.remove-from.ensures.after ∙ sym (ap (λ (xs : List g.row.T.Denot). remove xs c.args.row) c.len-len.ensures.rows);
-      room = same_room cells c.args.self.now.cells.now c.remove-from.ensures.size;
+      after = take-take _ 4000 cells (omega arith) ∙ c.remove_from.ensures.after ∙ sym (ap (λ (xs : List g.row.T.Denot). remove xs c.args.row) c.len-len.ensures.rows);
+      room = same_room cells c.args.self.now.cells.now c.remove_from.ensures.size;
       lent = refl;
     }
 

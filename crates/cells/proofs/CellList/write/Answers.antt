@@ -3,8 +3,8 @@ use Rattle.std.proofs.lemmas.List.{set_past}
 use Rattle.cells.proofs.Fronts.{set_entries, set_room}
 use Rattle.cells.proofs.CellList.write.Goals as goal
 
-pub offset-bounds-self-row : goal.offset-bounds-self-row
-offset-bounds-self-row g c = let h : c.args.row < length c.args.self.now.cells.now = omega arith in search rules
+pub offset_bounds-self-row : goal.offset_bounds-self-row
+offset_bounds-self-row g c = let h : c.args.row < length c.args.self.now.cells.now = omega arith in search rules
 
 pub returns-then-row-len : goal.returns-then-row-len
 returns-then-row-len g c =

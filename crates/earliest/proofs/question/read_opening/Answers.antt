@@ -15,4 +15,4 @@ pub returns : goal.returns
 returns c =
     let s = c.args.word.now in
     let l : length s ≡ 5 = omega arith in
-    c.read-date-2.ensures.value ∙ ap (λ (bs : List ℕ). date_reading (32 ∷ bs)) (five s l) ∙ spaced s l
+    c.read_date-2.ensures.value ∙ ap (λ (bs : List ℕ). date_reading (32 ∷ bs)) (five s l) ∙ spaced s l

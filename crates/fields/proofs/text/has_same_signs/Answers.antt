@@ -5,8 +5,8 @@ use Rattle.fields.specs.Words.{same_signs}
 use Rattle.fields.proofs.Signs.{no_other_sign, same_first, same_passed}
 use Rattle.fields.proofs.text.has_same_signs.Goals as goal
 
-pub returns-then-is-sign : goal.returns-then-is-sign
-returns-then-is-sign c =
+pub returns-then-is_sign : goal.returns-then-is_sign
+returns-then-is_sign c =
     let xs = c.args.field.now in
     let i = c.loop-i.i in
     let b = get_or xs i 0 in
@@ -14,7 +14,7 @@ returns-then-is-sign c =
     let here : each (λ c. not (is_sign_byte c) || eqb c b) (take (length xs - (i + 1)) rest) ≡ same_signs xs =
     ap (each (λ c. not (is_sign_byte c) || eqb c b)) (take_rest xs (i + 1))
     ∙ no_other_sign b rest
-    ∙ sym (at_drop_more same_signs xs i 0 c.loop-i-test.true ∙ same_first b rest (sym c.if-is-sign.ensures))
+    ∙ sym (at_drop_more same_signs xs i 0 c.loop-i-test.true ∙ same_first b rest (sym c.if-is_sign.ensures))
     ∙ c.loop-i.invariant in
     search (rules, here)
 
@@ -22,7 +22,7 @@ pub loop-i-preserved : goal.loop-i-preserved
 loop-i-preserved c =
     let xs = c.args.field.now in
     let i = c.loop-i.i in
-    sym (at_drop_more same_signs xs i 0 c.loop-i-test.true ∙ same_passed (get_or xs i 0) (drop (i + 1) xs) (sym c.if-is-sign.ensures)) ∙ c.loop-i.invariant
+    sym (at_drop_more same_signs xs i 0 c.loop-i-test.true ∙ same_passed (get_or xs i 0) (drop (i + 1) xs) (sym c.if-is_sign.ensures)) ∙ c.loop-i.invariant
 
 pub returns : goal.returns
 returns c = sym (at_drop_all same_signs c.args.field.now c.loop-i.i c.loop-i-test.false) ∙ c.loop-i.invariant

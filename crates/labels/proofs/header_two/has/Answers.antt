@@ -5,4 +5,4 @@ use Rattle.labels.proofs.Passing.{passes}
 use Rattle.labels.proofs.header_two.has.Goals as goal
 
 pub returns : goal.returns
-returns c = c.is-ok.ensures.value ∙ ap (λ (r : Result (Unit {0}) InputCause). is_ok r) c.judge-fixed.ensures ∙ passes (bytes_eq c.args.field.now c.args.text.now)
+returns c = c.is_ok.ensures.value ∙ ap (λ (r : Result (Unit {0}) InputCause). is_ok r) c.judge_fixed.ensures ∙ passes (bytes_eq c.args.field.now c.args.text.now)

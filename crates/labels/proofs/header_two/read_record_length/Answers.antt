@@ -12,7 +12,7 @@ pub returns : goal.returns
 returns c =
     let l = c.args.line.now in
     let k = choice 5 (lengths c.args.service) in
-    let meaning : result_map_both record_length_text (λ e. e) c.names-multi.result ≡ reading k (part 10 15 l) = c.names-multi.ensures ∙ ap (reading k) c.part.ensures.value in
-    placed_says record_length_text 11 c.at.result c.names-multi.result c.at.ensures
+    let meaning : result_map_both record_length_text (λ e. e) c.names_multi.result ≡ reading k (part 10 15 l) = c.names_multi.ensures ∙ ap (reading k) c.part.ensures.value in
+    placed_says record_length_text 11 c.at.result c.names_multi.result c.at.ensures
     ∙ ap (λ (r : Result (List ℕ) InputCause). placed in_field 11 r) meaning
     ∙ read_at k (λ p. refl, tt) 10 15 l refl

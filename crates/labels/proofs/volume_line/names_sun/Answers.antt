@@ -10,8 +10,8 @@ pub returns : goal.returns
 unfolding has_sun
 returns c =
     let bs = c.part.result.now in
-    c.is-ok.ensures.value
-    ∙ ap (λ (r : Result (Unit {0}) InputCause). is_ok r) c.judge-spaces.ensures
+    c.is_ok.ensures.value
+    ∙ ap (λ (r : Result (Unit {0}) InputCause). is_ok r) c.judge_spaces.ensures
     ∙ passes (bytes_eq bs (blank (length bs)))
     ∙ ap (λ (w : ℕ). bytes_eq bs (blank w)) c.part.ensures.len
     ∙ ap (λ l. bytes_eq l (blank 6)) c.part.ensures.value

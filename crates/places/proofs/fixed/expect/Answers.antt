@@ -13,5 +13,5 @@ returns c =
     let l = c.args.line.now in
     let from = c.args.from in
     let text = c.args.text.now in
-    let judged : c.judge-fixed.result ≡ verdict (head text) (part from (from + length text) l) = c.judge-fixed.ensures ∙ ap (verdict (head text)) c.part.ensures.value in
+    let judged : c.judge_fixed.result ≡ verdict (head text) (part from (from + length text) l) = c.judge_fixed.ensures ∙ ap (verdict (head text)) c.part.ensures.value in
     c.at.ensures ∙ ap (λ (r : Result (Unit {0}) InputCause). placed in_field (from + 1) r) judged ∙ fixed_at NotListed text (λ p. refl) from (from + length text) l refl

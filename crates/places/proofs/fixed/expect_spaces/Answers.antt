@@ -15,6 +15,6 @@ returns c =
     let from = c.args.from in
     let to = c.args.to in
     let n = to - from in
-    let judged : c.judge-spaces.result ≡ verdict (spaces n) (part from to l) =
-    c.judge-spaces.ensures ∙ ap (λ (w : ℕ). verdict (spaces w) c.part.result.now) c.part.ensures.len ∙ ap (verdict (spaces n)) c.part.ensures.value in
+    let judged : c.judge_spaces.result ≡ verdict (spaces n) (part from to l) =
+    c.judge_spaces.ensures ∙ ap (λ (w : ℕ). verdict (spaces w) c.part.result.now) c.part.ensures.len ∙ ap (verdict (spaces n)) c.part.ensures.value in
     c.at.ensures ∙ ap (λ (r : Result (Unit {0}) InputCause). placed in_field (from + 1) r) judged ∙ fixed_at NotListed (blank n) (λ p. refl) from to l (omega (arith, length-replicate {A = ℕ} n 32))

@@ -12,7 +12,7 @@ pub returns : goal.returns
 returns c =
     let l = c.args.line.now in
     let from = c.args.from in
-    let judged : c.judge-filled.result ≡ verdict (filled c.args.service) (part from (from + 18) l) = c.judge-filled.ensures ∙ ap (verdict (filled c.args.service)) c.part.ensures.value in
+    let judged : c.judge_filled.result ≡ verdict (filled c.args.service) (part from (from + 18) l) = c.judge_filled.ensures ∙ ap (verdict (filled c.args.service)) c.part.ensures.value in
     c.taken.ensures
     ∙ ap (λ (v : Result (Unit {0}) InputCause). placed in_field (from + 1) (after v (λ _. Ok (part from (from + 18) l)))) judged
     ∙ taken_at 18 (filled_rules c.args.service) (λ p. refl, (λ p. refl, tt)) from l

@@ -12,7 +12,7 @@ pub returns : goal.returns
 returns c =
     let l = c.args.line.now in
     let from = c.args.from in
-    let judged : c.judge-free-format.result ≡ verdict (free_format c.args.service) (part from (from + 4) l) = c.judge-free-format.ensures ∙ ap (verdict (free_format c.args.service)) c.part.ensures.value in
+    let judged : c.judge_free_format.result ≡ verdict (free_format c.args.service) (part from (from + 4) l) = c.judge_free_format.ensures ∙ ap (verdict (free_format c.args.service)) c.part.ensures.value in
     c.taken.ensures
     ∙ ap (λ (v : Result (Unit {0}) InputCause). placed in_field (from + 1) (after v (λ _. Ok (part from (from + 4) l)))) judged
     ∙ taken_at 4 (format_rules c.args.service) (λ p. refl, tt) from l

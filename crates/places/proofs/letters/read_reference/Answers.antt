@@ -12,7 +12,7 @@ pub returns : goal.returns
 returns c =
     let l = c.args.line.now in
     let from = c.args.from in
-    let judged : c.judge-reference.result ≡ verdict (reference c.args.service) (part from (from + 18) l) = c.judge-reference.ensures ∙ ap (verdict (reference c.args.service)) c.part.ensures.value in
+    let judged : c.judge_reference.result ≡ verdict (reference c.args.service) (part from (from + 18) l) = c.judge_reference.ensures ∙ ap (verdict (reference c.args.service)) c.part.ensures.value in
     c.taken.ensures
     ∙ ap (λ (v : Result (Unit {0}) InputCause). placed in_field (from + 1) (after v (λ _. Ok (part from (from + 18) l)))) judged
     ∙ taken_at 18 (reference_rules c.args.service) (λ p. refl, (λ p. refl, (λ p. refl, tt))) from l

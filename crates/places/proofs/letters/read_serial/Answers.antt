@@ -12,7 +12,7 @@ pub returns : goal.returns
 returns c =
     let l = c.args.line.now in
     let from = c.args.from in
-    let judged : c.judge-serial.result ≡ verdict (serial) (part from (from + 6) l) = c.judge-serial.ensures ∙ ap (verdict (serial)) c.part.ensures.value in
+    let judged : c.judge_serial.result ≡ verdict (serial) (part from (from + 6) l) = c.judge_serial.ensures ∙ ap (verdict (serial)) c.part.ensures.value in
     c.taken.ensures
     ∙ ap (λ (v : Result (Unit {0}) InputCause). placed in_field (from + 1) (after v (λ _. Ok (part from (from + 6) l)))) judged
     ∙ taken_at 6 (serial_rules) (λ p. refl, (λ p. refl, tt)) from l

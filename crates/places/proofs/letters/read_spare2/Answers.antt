@@ -13,7 +13,7 @@ returns c =
     let l = c.args.line.now in
     let from = c.args.from in
     let n : ℕ = 2 in
-    let judged : c.judge-digits-or-spaces.result ≡ verdict (digits_or_spaces n) (part from (from + n) l) = c.judge-digits-or-spaces.ensures ∙ ap (verdict (digits_or_spaces n)) c.part.ensures.value in
+    let judged : c.judge_digits_or_spaces.result ≡ verdict (digits_or_spaces n) (part from (from + n) l) = c.judge_digits_or_spaces.ensures ∙ ap (verdict (digits_or_spaces n)) c.part.ensures.value in
     c.taken.ensures
     ∙ ap (λ (v : Result (Unit {0}) InputCause). placed in_field (from + 1) (after v (λ _. Ok (part from (from + n) l)))) judged
     ∙ taken_at n spare_rules (λ p. refl, tt) from l

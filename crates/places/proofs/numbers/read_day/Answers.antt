@@ -14,5 +14,5 @@ returns c =
     let from = c.args.from in
     let bs = c.part.result.now in
     let wide : length bs ≡ 6 = c.part.ensures.len ∙ omega arith in
-    let says : c.read-date.result ≡ reading (date []) (part from (from + 6) l) = c.read-date.ensures.value ∙ date_says bs ∙ ap (reading (date [])) c.part.ensures.value in
+    let says : c.read_date.result ≡ reading (date []) (part from (from + 6) l) = c.read_date.ensures.value ∙ date_says bs ∙ ap (reading (date [])) c.part.ensures.value in
     c.at.ensures ∙ ap (λ (r : Result ℕ InputCause). placed in_field (from + 1) r) says ∙ read_at (date []) (λ p. refl, tt) from (from + 6) l refl

@@ -13,7 +13,7 @@ returns c =
     let from = c.args.from in
     let bs = c.part.result.now in
     let wide : length bs ≡ 6 = c.part.ensures.len ∙ omega arith in
-    let meaning : result_map_both mark_text (λ e. e) c.read-mark.result ≡ reading (marks) (part from (from + 6) l) = c.read-mark.ensures ∙ ap (reading (marks)) c.part.ensures.value in
-    placed_says mark_text (from + 1) c.at.result c.read-mark.result c.at.ensures
+    let meaning : result_map_both mark_text (λ e. e) c.read_mark.result ≡ reading (marks) (part from (from + 6) l) = c.read_mark.ensures ∙ ap (reading (marks)) c.part.ensures.value in
+    placed_says mark_text (from + 1) c.at.result c.read_mark.result c.at.ensures
     ∙ ap (λ (r : Result (List ℕ) InputCause). placed in_field (from + 1) r) meaning
     ∙ read_at (marks) (λ p. refl, tt) from (from + 6) l refl

@@ -13,8 +13,8 @@ returns c =
     let from = c.args.from in
     let bs = c.part.result.now in
     let wide : length bs ≡ c.args.to - from = c.part.ensures.len in
-    let says : c.read-digits.result ≡ reading (number (c.args.to - from)) (part from c.args.to l) = c.read-digits.ensures.value ∙ digits_say (c.args.to - from) bs (omega arith) ∙ ap (reading (number (c.args.to - from))) c.part.ensures.value in
+    let says : c.read_digits.result ≡ reading (number (c.args.to - from)) (part from c.args.to l) = c.read_digits.ensures.value ∙ digits_say (c.args.to - from) bs (omega arith) ∙ ap (reading (number (c.args.to - from))) c.part.ensures.value in
     record {
       value = c.at.ensures ∙ ap (λ (r : Result ℕ InputCause). placed in_field (from + 1) r) says ∙ read_at (number (c.args.to - from)) (λ p. refl, tt) from c.args.to l (omega arith);
-      bound = made_placed (λ n. n < 10 ^ (c.args.to - from)) (from + 1) c.at.result c.read-digits.result c.at.ensures (subst (λ (w : ℕ). IfOk c.read-digits.result (λ n. n < 10 ^ w)) wide c.read-digits.ensures.bound);
+      bound = made_placed (λ n. n < 10 ^ (c.args.to - from)) (from + 1) c.at.result c.read_digits.result c.at.ensures (subst (λ (w : ℕ). IfOk c.read_digits.result (λ n. n < 10 ^ w)) wide c.read_digits.ensures.bound);
     }

@@ -9,5 +9,5 @@ returns c =
     let out = c.args.out.now in
     let from = c.args.from in
     let bytes = c.args.bytes.now in
-    let put : c.copy-from-slice.new.self ≡ bytes = c.copy-from-slice.ensures.after in
-    take-put_mid from (from + length bytes - from) out c.copy-from-slice.new.self (from + length bytes) (omega (arith, ap length put)) (omega arith) ∙ ap (λ l. take from out ++ l) put
+    let put : c.copy_from_slice.new.self ≡ bytes = c.copy_from_slice.ensures.after in
+    take-put_mid from (from + length bytes - from) out c.copy_from_slice.new.self (from + length bytes) (omega (arith, ap length put)) (omega arith) ∙ ap (λ l. take from out ++ l) put

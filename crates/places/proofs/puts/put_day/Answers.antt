@@ -13,7 +13,7 @@ returns c =
     let from = c.args.from in
     let n = year_day c.args.day in
     let five : from + 6 - (from + 1) ≡ 5 = omega arith in
-    c.put-number.ensures
-    ∙ ap (λ (l : List ℕ). l ++ decimal (from + 6 - (from + 1)) n) c.put-bytes.ensures
+    c.put_number.ensures
+    ∙ ap (λ (l : List ℕ). l ++ decimal (from + 6 - (from + 1)) n) c.put_bytes.ensures
     ∙ ap (λ (k : ℕ). (front from out ++ 32 ∷ []) ++ decimal k n) five
     ∙ append_assoc (front from out) (32 ∷ []) (decimal 5 n)

@@ -14,5 +14,5 @@ returns c =
     let w = c.args.to - c.args.from in
     let out = c.args.out.now in
     let long : length (between c.args.from c.args.to out) ≡ w = length-between out c.args.from c.args.to (omega arith) in
-    let e : c.put-digits.new.out ≡ decimal w c.args.number = c.put-digits.ensures ∙ ap (λ k. decimal k c.args.number) long in
+    let e : c.put_digits.new.out ≡ decimal w c.args.number = c.put_digits.ensures ∙ ap (λ k. decimal k c.args.number) long in
     take-put_mid c.args.from w out _ c.args.to (omega (arith, ap length e, length-decimal w c.args.number)) (omega arith) ∙ ap (λ l. take c.args.from out ++ l) e

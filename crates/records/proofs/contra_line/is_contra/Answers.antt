@@ -11,9 +11,9 @@ pub returns-then-line-ge17 : goal.returns-then-line-ge17
 returns-then-line-ge17 c =
     let l = c.args.line.now in
     let found = c.part.result.now in
-    let code = c.contra-code.result in
+    let code = c.contra_code.result in
     let long : leb 17 (length l) ≡ true = le-leb 17 (length l) c.if-line-ge17.true in
     same_from_decides _ _ (slice_eq-Decides Decides-eqb found code _ c.eq.ensures) (bytes_eq-Decides found code)
     ∙ ap (λ (x : List ℕ). bytes_eq x code) c.part.ensures.value
-    ∙ ap (λ (x : List ℕ). bytes_eq (part 15 17 l) x) c.contra-code.ensures
+    ∙ ap (λ (x : List ℕ). bytes_eq (part 15 17 l) x) c.contra_code.ensures
     ∙ ap (λ (b : Bool). b && bytes_eq (part 15 17 l) (contra_code_text c.args.service)) (sym long)

@@ -10,6 +10,6 @@ use Rattle.records.proofs.contra_line.read_contra.Goals as goal
 pub returns : goal.returns
 returns c =
     let l = c.args.line.now in
-    let sort_code = subst (λ (n : ℕ). Ok n ≡ field_reading fault_of (digits_given 6 (Some n)) 0 l) c.number.ensures c.in-ok-expect-number.ensures in
-    let account = subst (λ (n : ℕ). Ok n ≡ field_reading fault_of (digits_given 8 (Some n)) 6 l) c.number-2.ensures c.in-ok-expect-number-2.ensures in
-    body_read c.args.service c.args.originator.now c.args.total c.args.narrative l (result_map_both contra_says (λ e. e) c.read-body.result) sort_code account c.in-ok-expect.ensures c.in-ok-expect-contra-code.ensures c.read-body.ensures
+    let sort_code = subst (λ (n : ℕ). Ok n ≡ field_reading fault_of (digits_given 6 (Some n)) 0 l) c.number.ensures c.in_ok-expect_number.ensures in
+    let account = subst (λ (n : ℕ). Ok n ≡ field_reading fault_of (digits_given 8 (Some n)) 6 l) c.number-2.ensures c.in_ok-expect_number-2.ensures in
+    body_read c.args.service c.args.originator.now c.args.total c.args.narrative l (result_map_both contra_says (λ e. e) c.read_body.result) sort_code account c.in_ok-expect.ensures c.in_ok-expect_contra_code.ensures c.read_body.ensures

@@ -17,7 +17,7 @@ unfolding open_at read_form
 returns-in-Ok g c =
     let bs = c.args.bytes.now in
     let opens = g.C.Calendar.opens c.args.calendar.now in
-    c.is-open.ensures
+    c.is_open.ensures
     ∙ ap (λ (r : Result ℕ InputCause). if_open opens (result_ok r)) (c.in-Ok.ensures.value ∙ ap date_reading c.part.ensures.value)
     ∙ sym (cond-true _ _ _ (le-leb (c.args.from + 6) (length bs) c.if-bytes-from.false))
 

@@ -7,12 +7,12 @@ use Rattle.calendars.proofs.all_days.AllDaysCalendar.next_open.Goals as goal
 within : Within all_days
 within k t = grind (arith, nat_tests)
 
-pub returns-then-from-le-LAST-DAY : goal.returns-then-from-le-LAST-DAY
-returns-then-from-le-LAST-DAY c =
+pub returns-then-from-le-LAST_DAY : goal.returns-then-from-le-LAST_DAY
+returns-then-from-le-LAST_DAY c =
     let l : Least all_days c.args.from (Some c.args.from) = (omega arith, grind (arith, nat_tests), λ k h t. h) in
     record { named = named_from all_days within c.args.from (Some c.args.from) l; least = l }
 
-pub returns-else-from-le-LAST-DAY : goal.returns-else-from-le-LAST-DAY
-returns-else-from-le-LAST-DAY c =
+pub returns-else-from-le-LAST_DAY : goal.returns-else-from-le-LAST_DAY
+returns-else-from-le-LAST_DAY c =
     let l : Least all_days c.args.from None = λ k h t. grind (arith, nat_tests) in
     record { named = named_from all_days within c.args.from None l; least = l }

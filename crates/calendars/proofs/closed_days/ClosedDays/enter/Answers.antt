@@ -4,8 +4,8 @@ use Rattle.calendars.specs.Entered.{among}
 use Rattle.calendars.proofs.Entries.{apart_push, answer_new, after_new}
 use Rattle.calendars.proofs.closed_days.ClosedDays.enter.Goals as goal
 
-pub invariant-of-self : goal.invariant-of-self
-invariant-of-self g c =
+pub invariant_of-self : goal.invariant_of-self
+invariant_of-self g c =
     let s = c.args.self.now in
     let l : s.count < length s.entered = omega arith in
     (search rules, (omega arith, (rw (take_more_set s.entered s.count c.args.day l) (apart_push (take s.count s.entered) c.args.day s.once (sym c.if-holds.ensures)), tt)))

@@ -35,5 +35,5 @@ returns g c =
     let f = g.C.Calendar.opens s.below in
     let w = g.met.C.Calendar.within s.below in
     let part : (k : ℕ) → less f xs k ≡ true → f k ≡ true = λ k t. (and_parts (f k) (not (among xs k)) t).0 in
-    let e : None ≡ next_member (less f xs) c.args.from = part_none f (less f xs) w part c.loop-day.at c.in-default.ensures.least ∙ sym c.loop-day.invariant in
+    let e : None ≡ next_member (less f xs) c.args.from = part_none f (less f xs) w part c.loop-day.at c.in_default.ensures.least ∙ sym c.loop-day.invariant in
     record { named = e; least = least_from (less f xs) (λ k t. w k (part k t)) c.args.from None e }

@@ -10,8 +10,8 @@ within k t = grind (arith, nat_tests)
 named : (d : ℕ) (o : Option ℕ) → Least week_days d o → o ≡ next_member week_days d
 named d o l = named_from week_days within d o l
 
-pub returns-then-from-gt-LAST-DAY : goal.returns-then-from-gt-LAST-DAY
-returns-then-from-gt-LAST-DAY c =
+pub returns-then-from-gt-LAST_DAY : goal.returns-then-from-gt-LAST_DAY
+returns-then-from-gt-LAST_DAY c =
     let l : Least week_days c.args.from None = λ k h t. grind (arith, nat_tests) in
     record { named = named c.args.from None l; least = l }
 
@@ -25,7 +25,7 @@ returns-in-1 c =
     let l : Least week_days c.args.from (Some (c.args.from + 1)) = (omega arith, grind (arith, nat_tests), λ k h t. grind (arith, nat_tests)) in
     record { named = named c.args.from (Some (c.args.from + 1)) l; least = l }
 
-pub returns-in-default : goal.returns-in-default
-returns-in-default c =
+pub returns-in_default : goal.returns-in_default
+returns-in_default c =
     let l : Least week_days c.args.from (Some c.args.from) = (omega arith, grind (arith, nat_tests), λ k h t. h) in
     record { named = named c.args.from (Some c.args.from) l; least = l }

@@ -14,7 +14,7 @@ pub loop-day-preserved : goal.loop-day-preserved
 loop-day-preserved c =
     let s = c.args.self.now in
     let d = c.loop-day.day in
-    let first : c.first-day-first.result ≡ first_day_of s.year.value = c.first-day-first.ensures in
+    let first : c.first_day-first.result ≡ first_day_of s.year.value = c.first_day-first.ensures in
     let shut : table_days s.year.value s.flags d ≡ false = by_flag s.year.value s.flags d (omega arith) (omega arith) ∙ ap (λ (n : ℕ). get_or s.flags (d - n) false) (sym first) ∙ c.if-self-day.false in
     λ k from below t. ⊎_elim
     (λ (h : k < d). c.loop-day.invariant k from h t)
@@ -26,7 +26,7 @@ returns-then-self-day c =
     let s = c.args.self.now in
     let d = c.loop-day.day in
     let f = table_days s.year.value s.flags in
-    let first : c.first-day-first.result ≡ first_day_of s.year.value = c.first-day-first.ensures in
+    let first : c.first_day-first.result ≡ first_day_of s.year.value = c.first_day-first.ensures in
     let member : f d ≡ true = by_flag s.year.value s.flags d (omega arith) (omega arith) ∙ ap (λ (n : ℕ). get_or s.flags (d - n) false) (sym first) ∙ c.if-self-day.true in
     let l : Least f c.args.from (Some d) = (omega arith, member, λ k from t. ⊎_elim (λ (h : k < d). absurd (c.loop-day.invariant k from h t)) (λ (h : d ≤ k). h) (cases_lt k d)) in
     record { named = named_from f (table_within s.year.value s.flags s.year.bound) c.args.from (Some d) l; least = l }

@@ -3,10 +3,10 @@ use Rattle.std.proofs.Common.{sym}
 use Rattle.std.proofs.lemmas.Result.{err_from_is_err_and}
 use Rattle.labels.proofs.header_line.Hdr1LabelLine.read.Goals as goal
 
-pub returns-in-err-expect-spaces-2 : goal.returns-in-err-expect-spaces-2
-returns-in-err-expect-spaces-2 c =
-    let p = err_from_is_err_and c.from-residual-in-err-expect-spaces-2.result c.from-residual-in-err-expect-spaces-2.ensures.1 in
-    rw (p.1, p.2, sym c.in-ok-expect.ensures, sym c.in-ok-user.ensures, sym c.in-ok-expect-2.ensures, sym c.in-ok-expect-spaces.ensures, sym c.in-ok-version.ensures, sym c.in-ok-user-again.ensures, sym c.in-ok-expect6.ensures, sym c.in-ok-expect-3.ensures, sym c.in-ok-spare4.ensures, sym c.in-ok-spare2.ensures, sym c.in-ok-creation.ensures, sym c.in-ok-expiry.ensures, sym c.in-ok-access.ensures, sym c.in-ok-expect-4.ensures, sym c.in-err-expect-spaces-2.ensures)
+pub returns-in_err-expect_spaces-2 : goal.returns-in_err-expect_spaces-2
+returns-in_err-expect_spaces-2 c =
+    let p = err_from_is_err_and c.from-residual-in_err-expect_spaces-2.result c.from-residual-in_err-expect_spaces-2.ensures.1 in
+    rw (p.1, p.2, sym c.in_ok-expect.ensures, sym c.in_ok-user.ensures, sym c.in_ok-expect-2.ensures, sym c.in_ok-expect_spaces.ensures, sym c.in_ok-version.ensures, sym c.in_ok-user_again.ensures, sym c.in_ok-expect6.ensures, sym c.in_ok-expect-3.ensures, sym c.in_ok-spare4.ensures, sym c.in_ok-spare2.ensures, sym c.in_ok-creation.ensures, sym c.in_ok-expiry.ensures, sym c.in_ok-access.ensures, sym c.in_ok-expect-4.ensures, sym c.in_err-expect_spaces-2.ensures)
 
 pub returns : goal.returns
-returns c = rw (sym c.in-ok-expect.ensures, sym c.in-ok-user.ensures, sym c.in-ok-expect-2.ensures, sym c.in-ok-expect-spaces.ensures, sym c.in-ok-version.ensures, sym c.in-ok-user-again.ensures, sym c.in-ok-expect6.ensures, sym c.in-ok-expect-3.ensures, sym c.in-ok-spare4.ensures, sym c.in-ok-spare2.ensures, sym c.in-ok-creation.ensures, sym c.in-ok-expiry.ensures, sym c.in-ok-access.ensures, sym c.in-ok-expect-4.ensures, sym c.in-ok-expect-spaces-2.ensures)
+returns c = rw (sym c.in_ok-expect.ensures, sym c.in_ok-user.ensures, sym c.in_ok-expect-2.ensures, sym c.in_ok-expect_spaces.ensures, sym c.in_ok-version.ensures, sym c.in_ok-user_again.ensures, sym c.in_ok-expect6.ensures, sym c.in_ok-expect-3.ensures, sym c.in_ok-spare4.ensures, sym c.in_ok-spare2.ensures, sym c.in_ok-creation.ensures, sym c.in_ok-expiry.ensures, sym c.in_ok-access.ensures, sym c.in_ok-expect-4.ensures, sym c.in_ok-expect_spaces-2.ensures)
