@@ -26,7 +26,7 @@ pub fn earliest_processing_day<C: Calendar>(
     opening: u32,
     calendar: &C,
 ) -> Result<Option<u32>, InputCause>
-    ensures { result ≡ earliest_day service opening (opens calendar.now) }
+    ensures { result ≡ earliest_day service opening (C.opens calendar.now) }
 {
     if opening > LAST_DAY {
         return Err(InputCause::NoDate);
@@ -50,7 +50,7 @@ pub fn last_usable_day(service: Service, processing: u32) -> u32
 
 /// How many days from `first` to `last`, both of them too, are open.
 pub fn count_open_days<C: Calendar>(calendar: &C, first: u32, last: u32) -> u32
-    ensures { result ≡ open_count (opens calendar.now) first last }
+    ensures { result ≡ open_count (C.opens calendar.now) first last }
 {
     let mut count = 0;
     for day in first..last.min(LAST_DAY) + 1 {
@@ -67,7 +67,7 @@ pub fn usable_days<C: Calendar>(
     opening: u32,
     calendar: &C,
 ) -> Result<Option<UsableDays>, InputCause>
-    ensures { result ≡ usable service opening (opens calendar.now) }
+    ensures { result ≡ usable service opening (C.opens calendar.now) }
 {
     let Some(first) = earliest_processing_day(service, opening, calendar)? else {
         return Ok(None);

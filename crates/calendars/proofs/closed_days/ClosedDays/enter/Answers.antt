@@ -8,7 +8,11 @@ pub invariant_of-self : goal.invariant_of-self
 invariant_of-self g c =
     let s = c.args.self.now in
     let l : s.count < length s.entered = omega arith in
-    (search rules, (omega arith, (rw (take_more_set s.entered s.count c.args.day l) (apart_push (take s.count s.entered) c.args.day s.once (sym c.if-holds.ensures)), tt)))
+    record {
+      long = search rules;
+      fits = omega arith;
+      once = rw (take_more_set s.entered s.count c.args.day l) (apart_push (take s.count s.entered) c.args.day s.once (sym c.if-holds.ensures));
+    }
 
 pub returns : goal.returns
 returns g c =
