@@ -21,7 +21,7 @@ impl Report {
         opening: u32,
         calendar: &C,
     ) -> Result<Report, InputCause>
-        ensures { result ≡ reporting service opening (opens calendar.now) }
+        ensures { result ≡ reporting service opening (C.opens calendar.now) }
     {
         let usable = usable_days(service, opening, calendar)?;
         Ok(Report {
