@@ -5,7 +5,7 @@ use Rattle.labels.proofs.header_line.Hdr1LabelLine.read.Goals as goal
 
 pub returns-in_err-expect_spaces-2 : goal.returns-in_err-expect_spaces-2
 returns-in_err-expect_spaces-2 c =
-    let p = err_from_is_err_and c.from-residual-in_err-expect_spaces-2.result c.from-residual-in_err-expect_spaces-2.ensures.1 in
+    let p = err_from_is_err_and c.from_residual-in_err-expect_spaces-2.result c.from_residual-in_err-expect_spaces-2.ensures.1 in
     rw (p.1, p.2, sym c.in_ok-expect.ensures, sym c.in_ok-user.ensures, sym c.in_ok-expect-2.ensures, sym c.in_ok-expect_spaces.ensures, sym c.in_ok-version.ensures, sym c.in_ok-user_again.ensures, sym c.in_ok-expect6.ensures, sym c.in_ok-expect-3.ensures, sym c.in_ok-spare4.ensures, sym c.in_ok-spare2.ensures, sym c.in_ok-creation.ensures, sym c.in_ok-expiry.ensures, sym c.in_ok-access.ensures, sym c.in_ok-expect-4.ensures, sym c.in_err-expect_spaces-2.ensures)
 
 pub returns : goal.returns
