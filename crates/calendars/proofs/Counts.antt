@@ -1,5 +1,5 @@
 -- The step of a count of open days.
-use Rattle.std.proofs.Common.{◌≡◌, ℕ, suc, ◌+◌, ◌-◌, ◌<◌, ◌≤◌, Bool, true, false, cond, sym, refl, ap, ◌∙◌, add-one, arith}
+use Rattle.std.proofs.Common.{◌≡◌, ℕ, suc, ◌+◌, ◌-◌, ◌<◌, ◌≤◌, Bool, true, false, cond, refl, ap, ◌∙◌, add-one, arith}
 use Rattle.calendars.specs.Processing.{members}
 
 pub members_past : (f : ℕ → Bool) (m d : ℕ) → m < d → members f (suc m - d) d ≡ 0

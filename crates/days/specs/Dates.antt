@@ -1,5 +1,5 @@
 -- Days by number, and their text: a space, two digits YY of the year and three digits DDD of the day of the year.
-use Rattle.std.specs.Prelude.{◌≡◌, ℕ, ◌+◌, ◌-◌, ◌*◌, ◌/◌, ◌%◌, ◌≤◌, Bool, true, false, cond, ◌&&◌, List, [], ◌∷◌, length, take, drop, Ok, Err, codes, Result, ◌==◌, nat_le}
+use Rattle.std.specs.Prelude.{◌≡◌, ℕ, ◌+◌, ◌-◌, ◌*◌, ◌/◌, ◌%◌, ◌≤◌, Bool, cond, ◌&&◌, List, [], ◌∷◌, length, take, drop, Ok, Err, codes, Result, ◌==◌, nat_le}
 use Rattle.std.specs.Str.{bytes_eq}
 use Rattle.terms.specs.declared.cause.InputCause.{InputCause}
 use Rattle.terms.specs.declared.cause.InputCause.TheVariants.{NoDate}

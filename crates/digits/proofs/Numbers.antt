@@ -1,11 +1,11 @@
 -- A number in digits is read again, and digits are those of the number that they write.
-use Rattle.std.proofs.Common.{◌≡◌, ℕ, zero, suc, ◌+◌, ◌-◌, ◌*◌, ◌/◌, ◌%◌, ◌^◌, ◌<◌, ◌≤◌, Bool, true, false, cond, ◌&&◌, leb, List, [], ◌∷◌, ◌++◌, length, Ok, Err, Result, sym, refl, ap, ◌∙◌, subst, append_assoc, append-nil, add-zero, mod-lt, div-lt_iff_lt-mul, pow-suc, div-add-mod', zero-add, add-one, arith, length-append}
+use Rattle.std.proofs.Common.{◌≡◌, ℕ, zero, suc, ◌+◌, ◌-◌, ◌*◌, ◌/◌, ◌%◌, ◌^◌, ◌<◌, ◌≤◌, Bool, true, false, cond, ◌&&◌, leb, List, [], ◌∷◌, ◌++◌, length, Ok, Err, sym, refl, ap, ◌∙◌, subst, append_assoc, append-nil, add-zero, mod-lt, div-lt_iff_lt-mul, pow-suc, div-add-mod', zero-add, add-one, arith, length-append}
 use native.Mathlib.Nat.{pow-le-pow_right}
 use Rattle.std.specs.Char.{is_ascii_digit}
 use Rattle.std.proofs.lemmas.Nat.{div-mul-add, mod-mul-add}
 use Rattle.std.proofs.lemmas.Bool.{and_from, and_parts, le-leb, leb-true}
 use Rattle.terms.specs.declared.cause.InputCause.{InputCause}
-use Rattle.digits.specs.Decimal.{all_digits, read_on, number_in, digits_reading, decimal, DigitLaws}
+use Rattle.digits.specs.Decimal.{all_digits, read_on, number_in, decimal, DigitLaws}
 
 -- The step of the reader: one more digit, and one more power of ten.
 pub grown : (n d i : ℕ) → n < 10 ^ i → d < 10 → n * 10 + d < 10 ^ (i + 1)

@@ -1,5 +1,5 @@
 -- A number in decimal digits, in a fixed number of places.
-use Rattle.std.specs.Prelude.{◌≡◌, ℕ, zero, suc, ◌+◌, ◌-◌, ◌*◌, ◌/◌, ◌%◌, ◌^◌, ◌<◌, ◌≤◌, Bool, true, false, cond, ◌&&◌, List, [], ◌∷◌, ◌++◌, length, Ok, Err, Result, nat_le}
+use Rattle.std.specs.Prelude.{◌≡◌, ℕ, zero, suc, ◌+◌, ◌-◌, ◌*◌, ◌/◌, ◌%◌, ◌^◌, ◌<◌, ◌≤◌, Bool, true, cond, ◌&&◌, List, [], ◌∷◌, ◌++◌, length, Ok, Err, Result, nat_le}
 use Rattle.std.specs.Char.{is_ascii_digit}
 use Rattle.terms.specs.declared.cause.InputCause.{InputCause}
 use Rattle.terms.specs.declared.cause.InputCause.TheVariants.{NotANumber}

@@ -1,5 +1,5 @@
 -- What the words of a question name, and what is told of them.
-use Rattle.std.specs.Prelude.{ℕ, Bool, cond, List, [], ◌∷◌, length, Ok, Err, Result, ◌==◌}
+use Rattle.std.specs.Prelude.{ℕ, Bool, cond, List, [], ◌∷◌, length, Err, Result, ◌==◌}
 use Rattle.std.specs.Result.{result_map_both}
 use Rattle.terms.specs.declared.cause.InputCause.{InputCause}
 use Rattle.terms.specs.declared.cause.InputCause.TheVariants.{NotListed}

@@ -1,5 +1,5 @@
 -- What a file says: its heading, and its payments in batches.
-use Rattle.std.specs.Prelude.{ℕ, suc, ◌+◌, Bool, List, [], ◌∷◌, ◌++◌, length, Some, None, sum_by, Option}
+use Rattle.std.specs.Prelude.{ℕ, suc, Bool, List, [], ◌∷◌, ◌++◌, length, sum_by}
 use Rattle.terms.specs.declared.service.Service.{Service}
 use Rattle.terms.specs.declared.service.Service.TheVariants.{Credits, Debits, FasterPayments}
 use Rattle.tables.specs.Forms.{shown}

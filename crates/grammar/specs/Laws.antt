@@ -1,5 +1,5 @@
 -- What is proved of files.
-use Rattle.std.specs.Prelude.{◌≡◌, ℕ, Bool, ◌⊎◌, ◌↔◌, List}
+use Rattle.std.specs.Prelude.{◌≡◌, ℕ, ◌⊎◌, ◌↔◌, List}
 use Rattle.fields.specs.Words.{blank}
 use Rattle.lines.specs.declared.fault.Fault.{Fault}
 use Rattle.labels.specs.Headers.{no_free}

@@ -1,5 +1,5 @@
 -- What headings and payments stand for, in the words of the grammar.
-use Rattle.std.specs.Prelude.{ℕ, List, [], ◌∷◌, ◌++◌, map}
+use Rattle.std.specs.Prelude.{ℕ, List, map}
 use Rattle.std.specs.List.{flat_map}
 use Rattle.fields.specs.Judging.{code_text}
 use Rattle.labels.specs.Volumes.{owner_says}

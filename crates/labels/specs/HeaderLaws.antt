@@ -1,14 +1,10 @@
 -- HDR1 and HDR2 that are written hold no line feed, and are read as what was written.
-use Rattle.std.specs.Prelude.{◌≡◌, ℕ, Bool, true, false, cond, List, [], ◌∷◌, Some, Ok, codes, refl}
-use Rattle.std.proofs.Common.{sym, ap, subst, ◌∙◌}
-use Rattle.std.specs.Str.{bytes_eq}
-use Rattle.std.proofs.lemmas.Slice.Eq.{bytes_eq-Decides}
-use Rattle.terms.specs.declared.service.Service.{Service}
-use Rattle.tables.specs.Lines.{at_values}
+use Rattle.std.specs.Prelude.{◌≡◌, ℕ, true, List, [], ◌∷◌, Ok, codes, refl}
+use Rattle.std.proofs.Common.{sym, ap, ◌∙◌}
 use Rattle.tables.proofs.Written.{written_reads}
 use Rattle.fields.specs.declared.owner.Owner.{Owner}
 use Rattle.fields.specs.declared.owner.Owner.TheVariants.{Sun, Marked}
-use Rattle.fields.specs.Words.{blank, choice}
+use Rattle.fields.specs.Words.{blank}
 use Rattle.lines.specs.Faults.{fault_of}
 use Rattle.lines.specs.Feeds.{plain}
 use Rattle.lines.specs.Places.{place_reading}
@@ -17,7 +13,7 @@ use Rattle.places.proofs.Unbroken.{PlainKind, PlainTable, choice_plain, given_pl
 use Rattle.labels.specs.declared.header.Hdr1.{Hdr1}
 use Rattle.labels.specs.declared.header.Hdr1Free.{Hdr1Free}
 use Rattle.labels.specs.declared.header.Hdr1Context.{Hdr1Context}
-use Rattle.labels.specs.Headers.{Hdr1Fits, hdr1, hdr1_line, hdr1_place, hdr1_values, header, no_free, places_of_owner, user}
+use Rattle.labels.specs.Headers.{Hdr1Fits, hdr1, hdr1_line, hdr1_place, hdr1_values, header, places_of_owner, user}
 
 owner_plain : (o : Owner) → plain (places_of_owner o) ≡ true
 owner_plain (Sun n) = shown_plain (decimals 6) n

@@ -1,16 +1,15 @@
 -- UHL1: its day and work code as they are read, and that what is written is read again.
-use Rattle.std.specs.Prelude.{◌≡◌, ℕ, ◌+◌, Bool, true, false, cond, List, [], ◌∷◌, Some, None, Ok, Err, codes, Option, Result, refl}
-use Rattle.std.proofs.Common.{sym, ap, subst, ◌∙◌, arith}
-use Rattle.std.specs.Result.{result_map_both}
+use Rattle.std.specs.Prelude.{◌≡◌, ℕ, ◌+◌, Bool, true, false, cond, List, [], ◌∷◌, Some, None, Ok, Err, codes, Result, refl}
+use Rattle.std.proofs.Common.{sym, ap, subst, arith}
 use Rattle.std.specs.Str.{bytes_eq}
 use Rattle.std.proofs.lemmas.Slice.Eq.{bytes_eq-Decides}
 use Rattle.terms.specs.declared.cause.InputCause.TheVariants as cause
 use Rattle.terms.specs.declared.service.Service.{Service}
 use Rattle.terms.specs.declared.service.Service.TheVariants.{Credits, Debits, FasterPayments}
-use Rattle.tables.specs.Walks.{after, field_reading, judged, part, placed, reading}
+use Rattle.tables.specs.Walks.{field_reading, judged, part, placed, reading}
 use Rattle.tables.proofs.Written.{written_reads}
 use Rattle.fields.specs.Judging.{verdict}
-use Rattle.fields.specs.Words.{blank, choice, date, head}
+use Rattle.fields.specs.Words.{blank, head}
 use Rattle.lines.specs.declared.fault.FieldFault.{FieldFault}
 use Rattle.lines.specs.declared.fault.FileFault.{FileFault}
 use Rattle.lines.specs.Faults.{fault_of, in_field, of_file}

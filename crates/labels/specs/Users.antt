@@ -1,5 +1,5 @@
 -- UHL1: the processing day, the kind of file and its number.
-use Rattle.std.specs.Prelude.{◌≡◌, ℕ, Bool, cond, ◌&&◌, List, [], ◌∷◌, codes, ◌==◌, nat_le, nat_lt}
+use Rattle.std.specs.Prelude.{ℕ, Bool, cond, ◌&&◌, List, [], ◌∷◌, codes, ◌==◌, nat_le, nat_lt}
 use Rattle.std.specs.Str.{bytes_eq}
 use Rattle.terms.specs.declared.cause.InputCause.TheVariants.{NotListed}
 use Rattle.terms.specs.declared.service.Service.{Service}

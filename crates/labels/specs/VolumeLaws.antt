@@ -1,11 +1,10 @@
 -- VOL1 that is written holds no line feed, and is read as what was written.
 use Rattle.std.specs.Prelude.{◌≡◌, ℕ, ◌+◌, Bool, true, false, cond, not, ◌&&◌, List, [], ◌∷◌, ◌++◌, length, take, drop, Ok, codes, refl}
-use Rattle.std.proofs.Common.{sym, ap, subst, ◌∙◌, inl, inr}
+use Rattle.std.proofs.Common.{sym, ap, ◌∙◌, inl, inr}
 use Rattle.std.specs.Str.{bytes_eq}
 use Rattle.std.proofs.lemmas.Slice.Eq.{bytes_eq-Decides}
 use Rattle.std.proofs.lemmas.List.{drop_at, drop-drop, take_at}
 use Rattle.std.proofs.lemmas.Bool.{and_parts, false≢true, not-true, or_cases}
-use Rattle.tables.specs.Lines.{AllAllowed}
 use Rattle.tables.specs.Walks.{part}
 use Rattle.tables.proofs.Written.{laid_is_line, written_reads}
 use Rattle.fields.specs.Characters.{one_of}

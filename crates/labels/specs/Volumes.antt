@@ -1,9 +1,9 @@
 -- VOL1: the serial and the owner.
-use Rattle.std.specs.Prelude.{◌≡◌, ℕ, Bool, cond, List, [], ◌∷◌, codes}
+use Rattle.std.specs.Prelude.{ℕ, Bool, cond, List, [], ◌∷◌, codes}
 use Rattle.std.specs.Str.{bytes_eq}
 use Rattle.tables.specs.Kinds.{Kind}
 use Rattle.tables.specs.Laying.{laid}
-use Rattle.tables.specs.Lines.{Table, Values, AllAllowed}
+use Rattle.tables.specs.Lines.{Table, AllAllowed}
 use Rattle.tables.specs.Walks.{part}
 use Rattle.fields.specs.declared.owner.Owner.{Owner}
 use Rattle.fields.specs.declared.owner.Owner.TheVariants.{Sun, Marked}

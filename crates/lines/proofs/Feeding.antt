@@ -1,9 +1,9 @@
 -- A line that is written with its line feed is found and read again.
-use Rattle.std.proofs.Common.{◌≡◌, ℕ, ◌+◌, ◌<◌, Bool, true, false, cond, not, ◌&&◌, eqb, ltb, List, [], ◌∷◌, ◌++◌, length, get_or, take, drop, set, Some, None, Ok, Err, Option, Result, sym, refl, ap, ◌∙◌, add-zero, arith}
+use Rattle.std.proofs.Common.{◌≡◌, ℕ, ◌+◌, ◌<◌, true, not, eqb, List, [], ◌∷◌, ◌++◌, length, get_or, drop, set, Some, Ok, Result, refl, ap, ◌∙◌, add-zero, arith}
 use Rattle.std.proofs.lemmas.List.{drop_more, set_at, take_at}
-use Rattle.std.proofs.lemmas.Bool.{and_parts, cond-false, cond-true, eq-eqb, lt-ltb, not-true}
+use Rattle.std.proofs.lemmas.Bool.{and_parts, cond-false, cond-true, eq-eqb, not-true}
 use Rattle.lines.specs.declared.fault.FileFault.{FileFault}
-use Rattle.lines.specs.Feeds.{feed_from, cut_reading, line_reading, plain, put_after}
+use Rattle.lines.specs.Feeds.{feed_from, cut_reading, line_reading, plain}
 
 -- the first line feed stands past bytes that are none
 pub feed_past : (xs zs : List ℕ) (n : ℕ) → plain xs ≡ true → feed_from n (xs ++ 10 ∷ zs) ≡ Some (n + length xs)

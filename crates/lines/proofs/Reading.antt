@@ -1,5 +1,5 @@
 -- What is read at a place is what the laws of its table say of the line.
-use Rattle.std.proofs.Common.{◌≡◌, ℕ, cond, eqb, ◌≢◌, ◌⊎◌, List, length, Some, None, Ok, Err, Option, Result, sym, refl, ap, ◌∙◌, inl, inr, arith}
+use Rattle.std.proofs.Common.{◌≡◌, ℕ, cond, List, length, Some, None, Ok, Err, Option, Result, sym, refl, ap, ◌∙◌, inl, inr, arith}
 use Rattle.std.proofs.lemmas.Bool.{eq-eqb}
 use Rattle.tables.specs.Lines.{at_values, fields_fault, line_fault, line_width, values, wrong_width, TableFieldFault, FirstIn, TableFault}
 use Rattle.tables.specs.Walks.{outcome}

@@ -1,17 +1,17 @@
 -- Fields that earlier lines fix: a number or bytes that are the given ones, else one fault.
-use Rattle.std.proofs.Common.{◌≡◌, ℕ, ◌+◌, ◌≤◌, Bool, true, false, cond, ◌&&◌, eqb, leb, List, [], ◌∷◌, length, Some, None, Ok, Err, Option, Result, sym, refl, ap, ◌∙◌, arith}
+use Rattle.std.proofs.Common.{◌≡◌, ℕ, ◌+◌, ◌≤◌, Bool, true, false, cond, ◌&&◌, eqb, leb, List, length, Some, None, Ok, Err, sym, refl, ap, arith}
 use Rattle.std.specs.Result.{result_ok}
 use Rattle.std.specs.Str.{bytes_eq}
 use Rattle.std.proofs.lemmas.Slice.Eq.{bytes_eq-Decides}
 use Rattle.std.proofs.lemmas.Bool.{eq-eqb, le-leb, ne_eqb}
 use Rattle.terms.specs.declared.cause.InputCause.{InputCause}
-use Rattle.terms.specs.declared.cause.InputCause.TheVariants.{NotANumber, NotListed}
+use Rattle.terms.specs.declared.cause.InputCause.TheVariants.{NotANumber}
 use Rattle.digits.specs.Decimal.{all_digits, number_in, digits_reading}
 use Rattle.days.specs.Dates.{date_reading}
 use Rattle.tables.specs.Forms.{Form, form_width, read_form}
 use Rattle.tables.specs.Forms.Form.{decimals, dates}
-use Rattle.tables.specs.Kinds.{Rule, broken_by, value_of}
-use Rattle.tables.specs.Walks.{part, judged, reading, field_reading}
+use Rattle.tables.specs.Kinds.{Rule}
+use Rattle.tables.specs.Walks.{part, reading, field_reading}
 use Rattle.fields.specs.Judging.{verdict}
 use Rattle.fields.specs.Words.{head}
 use Rattle.lines.specs.declared.fault.FileFault.TheVariants.{Differs}

@@ -4,8 +4,8 @@ use Rattle.std.specs.Str.{bytes_eq}
 use Rattle.std.specs.Result.{result_map_both}
 use Rattle.terms.specs.declared.cause.InputCause.{InputCause}
 use Rattle.terms.specs.declared.cause.InputCause.TheVariants.{NotListed}
-use Rattle.tables.specs.Forms.{Form, read_form, form_width}
-use Rattle.tables.specs.Kinds.{Rule, Kind, Value, width, broken, broken_by, judge, says}
+use Rattle.tables.specs.Forms.{read_form}
+use Rattle.tables.specs.Kinds.{Rule, Kind, width, broken, broken_by, judge, says}
 use Rattle.tables.specs.Kinds.Kind.{fixed, letters, number}
 use Rattle.tables.specs.Walks.{part, judged, reading, placed, field_reading, after}
 use Rattle.fields.specs.Judging.{verdict}

@@ -1,5 +1,5 @@
 -- What the calls on numbers, days and amounts read is what their kinds of field say.
-use Rattle.std.proofs.Common.{◌≡◌, ℕ, ◌/◌, ◌%◌, ◌^◌, ◌<◌, ◌≤◌, Bool, true, false, cond, ◌&&◌, ltb, leb, List, [], ◌∷◌, length, drop, Some, None, Ok, Err, Option, Result, sym, refl, ap, ◌∙◌, subst, arith}
+use Rattle.std.proofs.Common.{◌≡◌, ℕ, ◌/◌, ◌%◌, ◌^◌, ◌<◌, ◌≤◌, Bool, true, false, cond, leb, List, [], ◌∷◌, length, drop, Some, None, Ok, Err, Result, refl, ap, subst, arith}
 use mathlib.Core.Path.{subst⁻¹}
 use Rattle.std.specs.Result.{result_ok}
 use Rattle.std.proofs.lemmas.Bool.{le-leb, lt-ltb}
@@ -10,8 +10,7 @@ use Rattle.digits.specs.Decimal.{all_digits, number_in, digits_reading}
 use Rattle.digits.proofs.Numbers.{number_below}
 use Rattle.days.specs.Dates.{dated, date_form, date_reading, in_year, day_number}
 use Rattle.tables.specs.Forms.{read_form}
-use Rattle.tables.specs.Forms.Form.{decimals, dates}
-use Rattle.tables.specs.Kinds.{Kind, broken_by, value_of}
+use Rattle.tables.specs.Kinds.{broken_by, value_of}
 use Rattle.tables.specs.Walks.{reading, after, judged}
 use Rattle.fields.specs.Words.{amount, date, good_amount, number, rule}
 use Rattle.fields.specs.Judging.{amount_making, amount_reading, number_making, number_reading}

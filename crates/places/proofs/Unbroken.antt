@@ -1,5 +1,5 @@
 -- No field of an allowed value holds a line feed, so no line that is written does.
-use Rattle.std.proofs.Common.{◌≡◌, ℕ, zero, suc, ◌+◌, ◌-◌, ◌/◌, ◌%◌, Bool, true, false, cond, not, ◌&&◌, ◌||◌, eqb, leb, List, [], ◌∷◌, ◌++◌, Some, sym, refl, ap, ◌∙◌, subst, inl, inr, arith}
+use Rattle.std.proofs.Common.{◌≡◌, ℕ, Bool, true, false, cond, not, ◌&&◌, eqb, leb, List, [], ◌∷◌, ◌++◌, Some, sym, refl, subst, inl, inr, arith}
 use Rattle.std.specs.Char.{is_ascii_digit}
 use Rattle.std.specs.List.{AllByRecursion as All}
 use Rattle.std.specs.Str.{bytes_eq}
@@ -12,7 +12,7 @@ use Rattle.digits.proofs.Numbers.{all_decimal}
 use Rattle.days.specs.Dates.{year_day}
 use Rattle.tables.specs.Forms.{Form, shown}
 use Rattle.tables.specs.Forms.Form.{decimals, dates}
-use Rattle.tables.specs.Kinds.{Rule, Keeps, Kind, Allowed}
+use Rattle.tables.specs.Kinds.{Rule, Keeps, Kind}
 use Rattle.tables.specs.Kinds.Kind.{fixed, letters, number}
 use Rattle.tables.specs.Lines.{Table, Values, AllAllowed, line, at_values}
 use Rattle.tables.specs.Laying.{laid}

@@ -2,7 +2,7 @@
 use Rattle.std.specs.Prelude.{ℕ, Bool, List, [], ◌∷◌, Some, None, Option, nat_eq}
 use Rattle.std.specs.Str.{bytes_eq}
 use Rattle.terms.specs.declared.cause.InputCause.{InputCause}
-use Rattle.terms.specs.declared.cause.InputCause.TheVariants.{NotANumber, WrongCharacter, NotAtLeft, NoDate, DayOutOfRange, DayNotOpen, Differs}
+use Rattle.terms.specs.declared.cause.InputCause.TheVariants.{NotANumber, NoDate, DayOutOfRange, DayNotOpen, Differs}
 use Rattle.terms.specs.declared.service.Service.{Service}
 use Rattle.tables.specs.Forms.{Form}
 use Rattle.tables.specs.Forms.Form.{decimals, dates}

@@ -18,6 +18,14 @@ use terms::Service;
 /// How many bytes the four labels take with their line feeds.
 pub(crate) const LABEL_BYTES: usize = 324;
 
+/// The bytes behind a label and its line feed.
+fn behind_label(bytes: &[u8]) -> &[u8]
+    requires { 81 ≤ length bytes.now }
+    ensures { result.now ≡ drop 81 bytes.now }
+{
+    &bytes[81..]
+}
+
 /// Reads VOL1, HDR1, HDR2 and UHL1 at the front of a file.
 pub(crate) fn read_labels<C: Calendar>(
     service: Service,
@@ -29,11 +37,11 @@ pub(crate) fn read_labels<C: Calendar>(
     ensures within { OnOk result (324 ≤ length bytes.now) }
 {
     let Vol1 { owner, serial } = take_line::<Vol1Label>(1, bytes, &())?;
-    let after_volume = &bytes[81..];
+    let after_volume = behind_label(bytes);
     let header = take_line::<Hdr1Label>(2, after_volume, &Hdr1Context { owner, serial })?;
-    let after_header = &after_volume[81..];
+    let after_header = behind_label(after_volume);
     let Hdr2 { multi } = take_line::<Hdr2Label>(3, after_header, &Hdr2Context { service })?;
-    let after_size = &after_header[81..];
+    let after_size = behind_label(after_header);
     let context = Uhl1Context {
         service,
         opening,

@@ -1,5 +1,5 @@
 -- A contra's fields after its code stand at the same places by every service, since each code has two characters.
-use Rattle.std.proofs.Common.{◌≡◌, ℕ, ◌+◌, List, [], ◌∷◌, length, Some, Ok, Err, codes, Option, Result, sym, refl, ap, ◌∙◌}
+use Rattle.std.proofs.Common.{◌≡◌, ℕ, ◌+◌, List, [], length, Some, Ok, Err, codes, Option, Result, sym, refl, ap, ◌∙◌}
 use Rattle.terms.specs.declared.service.Service.{Service}
 use Rattle.terms.specs.declared.service.Service.TheVariants.{Credits, Debits, FasterPayments}
 use Rattle.tables.specs.Lines.{line_width}

@@ -2,7 +2,6 @@
 use Rattle.std.proofs.Common.{◌≡◌, ℕ, ◌+◌, List, [], ◌∷◌, ◌++◌, length, Ok, Err, Result, sym, refl, ap, ◌∙◌, add-zero, add_assoc}
 use Rattle.terms.specs.declared.cause.InputCause.{InputCause}
 use Rattle.tables.specs.Forms.{form_width}
-use Rattle.tables.specs.Kinds.{Kind}
 use Rattle.tables.specs.Kinds.Kind.{fixed, letters, number}
 use Rattle.tables.specs.Lines.{By, Table, line_width}
 use Rattle.tables.specs.Walks.{after, field_reading, fields_reading}

@@ -1,5 +1,5 @@
 -- A contra that is written holds no line feed, and is read as what was written.
-use Rattle.std.specs.Prelude.{◌≡◌, ℕ, true, List, [], ◌∷◌, Some, None, Ok, Option, refl}
+use Rattle.std.specs.Prelude.{◌≡◌, ℕ, true, List, [], Some, None, Ok, Option, refl}
 use Rattle.std.proofs.Common.{sym, subst}
 use Rattle.std.proofs.lemmas.Slice.Eq.{bytes_eq-Decides}
 use Rattle.terms.specs.declared.service.Service.{Service}

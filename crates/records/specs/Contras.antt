@@ -11,7 +11,7 @@ use Rattle.lines.specs.Places.{Place, stands}
 use Rattle.places.specs.Given.{day_given, digits_given, letters_given, text_given}
 use Rattle.records.specs.declared.contra.Contra.{Contra}
 use Rattle.records.specs.declared.payment.Originator.{Originator}
-use Rattle.records.specs.Payments.{OriginatorSays, originator_says}
+use Rattle.records.specs.Payments.{OriginatorSays}
 
 -- the service's code of a contra stands at 16-17
 abbrev pub contra_shown : Service → List ℕ → Bool

@@ -1,5 +1,5 @@
 -- A payment that is written holds no line feed, and is read as what was written.
-use Rattle.std.specs.Prelude.{◌≡◌, ℕ, true, List, [], ◌∷◌, None, Ok, Option, refl}
+use Rattle.std.specs.Prelude.{◌≡◌, true, [], ◌∷◌, None, Ok, Option, refl}
 use Rattle.terms.specs.declared.service.Service.{Service}
 use Rattle.tables.specs.Kinds.{Keeps}
 use Rattle.tables.specs.Lines.{AllAllowed, Table, Values}
@@ -10,7 +10,6 @@ use Rattle.lines.specs.Feeds.{plain}
 use Rattle.lines.specs.Places.{place_reading}
 use Rattle.places.proofs.Unbroken.{PlainTable, code_plain, filled_plain, format_plain, laid_plain, reference_plain}
 use Rattle.records.specs.declared.payment.DayRule.{DayRule}
-use Rattle.records.specs.declared.payment.DayRule.TheVariants.{Fixed}
 use Rattle.records.specs.declared.payment.Originator.{Originator}
 use Rattle.records.specs.Payments.{DatedSays, PaymentSays, DatedFits, dated_line, dated_place, dated_table, payment_fields, PaymentFits, payment_line, payment_place, payment_table, payment_values, record_day}
 

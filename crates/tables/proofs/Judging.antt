@@ -1,8 +1,8 @@
 -- Each kind's fields are read as what they were laid out for, and bytes with no fault are such a field.
-use Rattle.std.proofs.Common.{◌≡◌, ℕ, Bool, true, false, cond, List, [], ◌∷◌, ◌++◌, length, Some, None, Option, sym, refl, ap, ◌∙◌, subst, arith}
+use Rattle.std.proofs.Common.{◌≡◌, ℕ, Bool, true, false, cond, List, [], ◌∷◌, length, Some, None, Option, sym, refl, ap, arith}
 use Rattle.std.proofs.lemmas.Slice.Eq.{bytes_eq-Decides}
 use Rattle.std.specs.Str.{bytes_eq}
-use Rattle.tables.specs.Forms.{Form, form_width, Within, shown, read_form}
+use Rattle.tables.specs.Forms.{read_form}
 use Rattle.terms.specs.declared.cause.InputCause.{InputCause}
 use Rattle.tables.specs.Kinds.{Rule, Keeps, broken, Kind, width, Value, Allowed, field, judge, says, broken_by, value_of}
 use Rattle.tables.specs.Kinds.Kind.{fixed, letters, number}

@@ -1,10 +1,10 @@
 -- What is shown of a number or a day is read again, and what is read is shown so.
-use Rattle.std.proofs.Common.{◌≡◌, ℕ, suc, ◌^◌, ◌<◌, ◌≤◌, Bool, true, false, cond, List, length, Some, None, Ok, Err, Option, Result, sym, refl, ap, ◌∙◌, subst, arith}
+use Rattle.std.proofs.Common.{◌≡◌, ℕ, suc, ◌^◌, ◌<◌, Bool, true, false, cond, List, length, Some, None, Ok, Err, Result, sym, refl, ap, ◌∙◌, subst, arith}
 use Rattle.std.specs.Result.{result_ok}
 use Rattle.terms.specs.declared.cause.InputCause.{InputCause}
 use Rattle.digits.specs.Decimal.{decimal, all_digits, number_in}
 use Rattle.digits.proofs.Numbers.{length-decimal, all_decimal, number_decimal, decimal_number, number_below}
-use Rattle.days.specs.Dates.{date_text, date_reading, year_day}
+use Rattle.days.specs.Dates.{date_reading, year_day}
 use Rattle.days.proofs.Dating.{text_reads, only_text}
 use Rattle.tables.specs.Forms.{Form, form_width, Within, shown, read_form}
 use Rattle.tables.specs.Forms.Form.{decimals, dates}

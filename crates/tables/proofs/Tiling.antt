@@ -1,12 +1,12 @@
 -- A table tiles its line: the laws of fields hold of lines.
-use Rattle.std.proofs.Common.{◌≡◌, ℕ, ◌+◌, ◌≤◌, Bool, true, false, cond, eqb, ◌≢◌, ◌⊎◌, List, [], ◌∷◌, ◌++◌, length, take, drop, Some, None, Option, sym, refl, ap, ◌∙◌, subst, inl, inr, append_assoc, add_assoc, arith, length-append, length-drop}
+use Rattle.std.proofs.Common.{◌≡◌, ℕ, ◌+◌, ◌≤◌, Bool, true, false, cond, eqb, List, [], ◌∷◌, ◌++◌, length, take, drop, Some, None, Option, sym, refl, ap, ◌∙◌, inl, inr, append_assoc, arith, length-append, length-drop}
 use Rattle.std.proofs.lemmas.List.{take_at, drop_at, length-take-le, take-append-drop}
 use Rattle.std.proofs.lemmas.Bool.{eq-eqb, eqb-true, eqb-false, ne_eqb}
-use Rattle.tables.specs.Forms.{Form, form_width, shown, read_form}
+use Rattle.tables.specs.Forms.{form_width, shown, read_form}
 use Rattle.terms.specs.declared.cause.InputCause.{InputCause}
 use Rattle.tables.specs.Kinds.{Kind, width, Value, Allowed, field, judge, says, value_of}
 use Rattle.tables.specs.Kinds.Kind.{fixed, letters, number}
-use Rattle.tables.specs.Lines.{Table, line_width, Values, AllAllowed, line, IsLine, TableFault, or_later, fields_fault, wrong_width, line_fault, values, ReadsLine, LineLaw, TableFieldFault, FirstIn, FaultLaw}
+use Rattle.tables.specs.Lines.{Table, line_width, Values, AllAllowed, line, TableFault, or_later, fields_fault, wrong_width, line_fault, values, LineLaw, TableFieldFault, FirstIn, FaultLaw}
 use Rattle.tables.proofs.Judging.{some_none, no_fault, field_length, judge-field, says-field, judged_allowed, judged_field}
 
 -- A field in front.

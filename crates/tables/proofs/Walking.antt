@@ -1,11 +1,11 @@
 -- Reading the fields one by one gives the fault of the fields, and else what they say.
-use Rattle.std.proofs.Common.{◌≡◌, ℕ, ◌+◌, ◌-◌, List, [], ◌∷◌, length, take, drop, Some, None, Ok, Err, Option, Result, sym, refl, ap, ◌∙◌, arith}
+use Rattle.std.proofs.Common.{◌≡◌, ℕ, ◌+◌, ◌-◌, List, [], ◌∷◌, length, take, drop, Some, None, Option, Result, refl, ◌∙◌, arith}
 use Rattle.std.proofs.lemmas.List.{drop-drop}
 use Rattle.terms.specs.declared.cause.InputCause.{InputCause}
 use Rattle.tables.specs.Forms.{form_width, read_form}
 use Rattle.tables.specs.Kinds.{Kind, width, Value, judge, says, value_of}
 use Rattle.tables.specs.Kinds.Kind.{fixed, letters, number}
-use Rattle.tables.specs.Lines.{Table, By, Values, at_values, values, TableFault, or_later, fields_fault}
+use Rattle.tables.specs.Lines.{Table, By, at_values, values, TableFault, or_later, fields_fault}
 use Rattle.tables.specs.Walks.{part, judged, reading, placed, field_reading, after, fields_reading, outcome, WalkLaw}
 
 module _ {E X : Type 0} (fault : InputCause → ℕ → E) where

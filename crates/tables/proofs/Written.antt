@@ -1,11 +1,10 @@
 -- A line that is laid out from the left is the line of its values, and is read as them.
-use Rattle.std.proofs.Common.{◌≡◌, ℕ, List, [], ◌∷◌, ◌++◌, Some, None, Ok, Err, Option, Result, sym, refl, ap, ◌∙◌, append_assoc, append-nil}
+use Rattle.std.proofs.Common.{◌≡◌, ℕ, List, [], ◌∷◌, ◌++◌, Ok, Option, sym, ap, ◌∙◌, append_assoc, append-nil}
 use Rattle.terms.specs.declared.cause.InputCause.{InputCause}
 use Rattle.tables.specs.Forms.{shown}
-use Rattle.tables.specs.Kinds.{Kind}
 use Rattle.tables.specs.Kinds.Kind.{fixed, letters, number}
 use Rattle.tables.specs.Laying.{laid_after, laid}
-use Rattle.tables.specs.Lines.{Table, By, Values, AllAllowed, at_values, values, line, fields_fault}
+use Rattle.tables.specs.Lines.{Table, By, Values, AllAllowed, at_values, values, line}
 use Rattle.tables.specs.Walks.{fields_reading, outcome}
 use Rattle.tables.proofs.Tiling.{fields_none, values_line}
 use Rattle.tables.proofs.Walking.{walk_law}

@@ -1,5 +1,5 @@
 -- The kinds of field: what one says, how that is laid out, and what is wrong with other bytes.
-use Rattle.std.specs.Prelude.{◌≡◌, ℕ, Bool, true, false, cond, List, [], ◌∷◌, length, Some, None, Option}
+use Rattle.std.specs.Prelude.{◌≡◌, ℕ, Bool, true, cond, List, [], ◌∷◌, length, Some, None, Option}
 use Rattle.std.specs.Str.{bytes_eq}
 use Rattle.terms.specs.declared.cause.InputCause.{InputCause}
 use Rattle.tables.specs.Forms.{Form, form_width, Within, shown, read_form}

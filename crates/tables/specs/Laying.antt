@@ -1,7 +1,6 @@
 -- The line of some values, laid out from the left.
 use Rattle.std.specs.Prelude.{ℕ, List, [], ◌∷◌, ◌++◌}
 use Rattle.tables.specs.Forms.{shown}
-use Rattle.tables.specs.Kinds.{Kind}
 use Rattle.tables.specs.Kinds.Kind.{fixed, letters, number}
 use Rattle.tables.specs.Lines.{Table, By}
 

@@ -4,7 +4,7 @@ use Rattle.terms.specs.declared.cause.InputCause.{InputCause}
 use Rattle.tables.specs.Forms.{form_width}
 use Rattle.tables.specs.Kinds.{Kind, width, Value, judge, says}
 use Rattle.tables.specs.Kinds.Kind.{fixed, letters, number}
-use Rattle.tables.specs.Lines.{Table, By, Values, at_values, values, TableFault, fields_fault}
+use Rattle.tables.specs.Lines.{Table, By, at_values, values, TableFault, fields_fault}
 
 -- the bytes of a line after the first `from`, up to the first `to`
 unfoldable pub part : ℕ → ℕ → List ℕ → List ℕ

@@ -6,7 +6,6 @@ use Rattle.terms.specs.declared.cause.InputCause.TheVariants as cause
 use Rattle.digits.specs.Decimal.{all_digits, number_in}
 use Rattle.digits.proofs.Numbers.{number_below}
 use Rattle.tables.specs.Forms.{read_form}
-use Rattle.tables.specs.Forms.Form.{decimals}
 use Rattle.tables.specs.Kinds.{broken_by, value_of}
 use Rattle.tables.specs.Walks.{field_reading, judged, part, placed, reading}
 use Rattle.lines.specs.declared.fault.FileFault.{FileFault}

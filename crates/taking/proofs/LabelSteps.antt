@@ -1,7 +1,6 @@
 -- The labels before the batches, taken off the bytes one by one.
-use Rattle.std.proofs.Common.{◌≡◌, ℕ, ◌+◌, ◌≤◌, Bool, true, false, cond, List, [], ◌∷◌, ◌++◌, length, Err, sym, refl, ap, ◌∙◌, subst, arith}
+use Rattle.std.proofs.Common.{◌≡◌, ℕ, ◌+◌, ◌≤◌, Bool, true, false, cond, List, ◌∷◌, length, Err, refl, ap, ◌∙◌, arith}
 use Rattle.std.specs.Result.{result_map_both}
-use Rattle.terms.specs.declared.service.Service.{Service}
 use Rattle.tables.specs.Forms.{read_form}
 use Rattle.tables.specs.Forms.Form.{dates}
 use Rattle.tables.specs.Walks.{part}

@@ -1,7 +1,7 @@
 -- Which line comes is told by the bytes as by the line itself.
-use Rattle.std.proofs.Common.{◌≡◌, ℕ, ◌<◌, ◌≤◌, Bool, true, false, ◌&&◌, leb, List, [], ◌∷◌, ◌++◌, length, sym, refl, ap, ◌∙◌, arith, length-append}
+use Rattle.std.proofs.Common.{◌≡◌, ℕ, ◌≤◌, Bool, true, false, ◌&&◌, leb, List, [], ◌∷◌, ◌++◌, length, sym, refl, ap, ◌∙◌, arith, length-append}
 use Rattle.std.specs.Str.{bytes_eq}
-use Rattle.std.proofs.lemmas.Bool.{and_left, le-leb, leb-true, lt-leb}
+use Rattle.std.proofs.lemmas.Bool.{and_left, le-leb, leb-true}
 use Rattle.terms.specs.declared.service.Service.{Service}
 use Rattle.tables.specs.Walks.{part}
 use Rattle.fields.specs.Words.{contra_code_text}

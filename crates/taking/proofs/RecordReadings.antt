@@ -1,23 +1,21 @@
 -- Records as they are read by the originator, the day and the total that the code keeps.
-use Rattle.std.proofs.Common.{◌≡◌, ℕ, ◌+◌, ◌^◌, ◌≤◌, min, Bool, true, false, List, [], ◌∷◌, Some, None, Option, sym, refl, ap, ◌∙◌, arith, lit≤}
+use Rattle.std.proofs.Common.{◌≡◌, ℕ, ◌+◌, min, Bool, true, false, List, [], ◌∷◌, Some, None, Option, sym, refl, ◌∙◌, lit≤}
 use Rattle.std.specs.Option.{option_map as if_some}
 use Rattle.std.specs.Result.{result_map_both}
 use Rattle.terms.specs.declared.service.Service.{Service}
 use Rattle.terms.specs.declared.service.Service.TheVariants.{Credits, Debits, FasterPayments}
 use Rattle.tables.specs.Forms.{read_form}
 use Rattle.tables.specs.Forms.Form.{dates}
-use Rattle.tables.specs.Kinds.{Kind}
-use Rattle.tables.specs.Lines.{By}
 use Rattle.tables.specs.Walks.{part}
-use Rattle.lines.specs.Places.{Place, place_reading, stands}
-use Rattle.places.specs.Given.{day_given, usable_rules}
+use Rattle.lines.specs.Places.{place_reading, stands}
+use Rattle.places.specs.Given.{day_given}
 use Rattle.records.specs.declared.payment.DayRule.TheVariants.{Fixed as Day, Range}
 use Rattle.records.specs.declared.payment.Originator.{Originator}
-use Rattle.records.specs.Contras.{ContraSays, contra_layout, contra_of, contra_place, dated_contra_place}
-use Rattle.records.specs.Payments.{DatedSays, OriginatorSays, PaymentSays, dated_place, in_range, originator_says, payment_layout, payment_of, payment_place}
+use Rattle.records.specs.Contras.{contra_layout, contra_of, contra_place, dated_contra_place}
+use Rattle.records.specs.Payments.{OriginatorSays, dated_place, in_range, originator_says, payment_layout, payment_of, payment_place}
 use Rattle.grammar.specs.Headings.{Setting}
 use Rattle.grammar.specs.Next.{Fixed, Open, closing, entry, originator, payment_day, paying}
-use Rattle.taking.specs.Records.{PaymentRead, dated_read, kept_open, most, read, read_on}
+use Rattle.taking.specs.Records.{dated_read, most, read, read_on}
 use Rattle.taking.specs.Taking.{if_open}
 use Rattle.taking.proofs.Kept.{kept_number}
 use Rattle.taking.proofs.LookedUp.{looked_up}

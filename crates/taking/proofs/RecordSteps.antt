@@ -1,25 +1,24 @@
 -- Payments and contras, taken off the bytes by what the records before them fix.
-use Rattle.std.proofs.Common.{◌≡◌, ℕ, ◌+◌, ◌≤◌, Bool, true, false, cond, not, ◌&&◌, List, [], ◌∷◌, ◌++◌, length, Some, None, Ok, Err, Option, sym, refl, ap, ◌∙◌, subst, arith}
+use Rattle.std.proofs.Common.{◌≡◌, ℕ, ◌≤◌, Bool, true, false, cond, not, ◌&&◌, List, [], ◌∷◌, ◌++◌, length, Some, None, Err, Option, sym, refl, ap, ◌∙◌, arith}
 use Rattle.std.specs.Result.{result_map_both}
 use Rattle.std.proofs.lemmas.Bool.{cond-false, cond-true}
 use Rattle.terms.specs.declared.service.Service.{Service}
 use Rattle.terms.specs.declared.service.Service.TheVariants.{Credits, Debits, FasterPayments}
-use Rattle.tables.specs.Lines.{Table, line_width}
+use Rattle.tables.specs.Lines.{line_width}
 use Rattle.lines.specs.declared.fault.FileFault.TheVariants.{Line}
 use Rattle.lines.specs.declared.fault.LineFault.TheVariants.{WrongLength}
-use Rattle.lines.specs.Places.{Place, place_reading, stands}
+use Rattle.lines.specs.Places.{Place, place_reading}
 use Rattle.places.specs.Given.{day_given}
 use Rattle.labels.specs.declared.header.Hdr1Free.{Hdr1Free}
-use Rattle.labels.specs.Volumes.{OwnerSays}
 use Rattle.records.specs.Contras.{contra_layout, contra_shown}
 use Rattle.records.specs.Payments.{OriginatorSays, payment_layout}
 use Rattle.grammar.specs.Headings.{Batch, Entry, Setting, Top}
-use Rattle.grammar.specs.Next.{Fixed, Next, Open, Paid, Said, closing, entry, fixed, is_eof1, next, next_record, open_of, originator, payment_day, paying}
+use Rattle.grammar.specs.Next.{Fixed, Next, Open, Said, closing, entry, fixed, is_eof1, next, open_of, originator, payment_day, paying}
 use Rattle.grammar.specs.Next.Next.{comes}
 use Rattle.grammar.specs.Next.Paid.{none, first, closed, during}
 use Rattle.grammar.specs.Next.Said.{paid}
 use Rattle.grammar.specs.Reading.{finish, line_said, no_line, step}
-use Rattle.taking.specs.Records.{PaymentRead, closed_on, kept, kept_open, paid_on, read, record_long}
+use Rattle.taking.specs.Records.{closed_on, kept, paid_on, read, record_long}
 use Rattle.taking.proofs.Peeks.{contra_peek, eof1_peek, no_contra}
 use Rattle.taking.proofs.Stepping.{Agrees, line_reads, line_wrong, reading_as, table_agrees}
 

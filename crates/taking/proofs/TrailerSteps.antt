@@ -1,5 +1,5 @@
 -- The labels after the batches, taken off the bytes one by one.
-use Rattle.std.proofs.Common.{◌≡◌, ℕ, Bool, true, false, cond, not, ◌&&◌, List, [], ◌∷◌, ◌++◌, sym, refl, ap, ◌∙◌}
+use Rattle.std.proofs.Common.{◌≡◌, ℕ, Bool, false, not, ◌&&◌, List, sym, refl, ap, ◌∙◌}
 use Rattle.std.proofs.lemmas.Bool.{cond-false}
 use Rattle.lines.specs.Places.{place_reading}
 use Rattle.labels.specs.declared.header.Hdr1Free.{Hdr1Free}

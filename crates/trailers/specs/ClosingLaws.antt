@@ -1,5 +1,5 @@
 -- EOF2 and UTL1 that are written hold no line feed, and are read as what was written.
-use Rattle.std.specs.Prelude.{◌≡◌, Bool, true, false, List, Ok, refl}
+use Rattle.std.specs.Prelude.{◌≡◌, Bool, true, false, Ok, refl}
 use Rattle.tables.specs.Lines.{AllAllowed}
 use Rattle.tables.proofs.Written.{written_reads}
 use Rattle.lines.specs.Faults.{fault_of}

@@ -1,7 +1,7 @@
 -- EOF2 and UTL1: what the labels before the batches say, and the totals and counts of the file.
-use Rattle.std.specs.Prelude.{◌≡◌, ℕ, Bool, List, [], ◌∷◌, Some, codes}
+use Rattle.std.specs.Prelude.{ℕ, Bool, List, [], ◌∷◌, Some, codes}
 use Rattle.tables.specs.Laying.{laid}
-use Rattle.tables.specs.Lines.{Table, Values, AllAllowed}
+use Rattle.tables.specs.Lines.{Table, AllAllowed}
 use Rattle.fields.specs.Words.{again, blank, head, spaces}
 use Rattle.lines.specs.Places.{Place, stands}
 use Rattle.places.specs.Given.{digits_given, letters_given}

@@ -1,5 +1,5 @@
 -- EOF1 that is written holds no line feed, and is read as what was written.
-use Rattle.std.specs.Prelude.{◌≡◌, ℕ, true, List, [], Ok, refl}
+use Rattle.std.specs.Prelude.{◌≡◌, true, [], Ok, refl}
 use Rattle.tables.proofs.Written.{written_reads}
 use Rattle.lines.specs.Faults.{fault_of}
 use Rattle.lines.specs.Feeds.{plain}

@@ -1,4 +1,4 @@
-use Rattle.std.proofs.Common.{◌≡◌, ℕ, ◌+◌, min, true, false, sym, ◌∙◌, arith}
+use Rattle.std.proofs.Common.{min, true, false, sym, arith}
 use Rattle.calendars.proofs.Counts.{members_past, count_more}
 use Rattle.calendars.proofs.processing.count_open_days.Goals as goal
 use Rattle.calendars.proofs.processing.count_open_days.Goals.{then-is_open, else-is_open}

@@ -1,7 +1,7 @@
-use Rattle.std.proofs.Common.{◌≡◌, sym, refl, arith, lit<}
+use Rattle.std.proofs.Common.{sym, refl, lit<}
 use Rattle.std.proofs.lemmas.Bool.{or_from}
 use Rattle.terms.specs.declared.cause.InputCause.TheVariants.{NotListed}
-use Rattle.terms.specs.declared.service.Service.TheVariants.{Credits, FasterPayments}
+use Rattle.terms.specs.declared.service.Service.TheVariants.{Credits}
 use Rattle.fields.proofs.Contents.{is_listed, not_listed}
 use Rattle.labels.specs.Headers.{lengths}
 use Rattle.labels.proofs.header_two.names_either.Goals as goal

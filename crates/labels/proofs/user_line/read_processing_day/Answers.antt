@@ -1,4 +1,4 @@
-use Rattle.std.proofs.Common.{◌≡◌, ℕ, true, false, sym, refl, rules}
+use Rattle.std.proofs.Common.{true, false, sym, refl, rules}
 use Rattle.places.proofs.Days.{no_day, day_by}
 use Rattle.labels.specs.Users.{in_order}
 use Rattle.labels.proofs.user_line.read_processing_day.Goals as goal

@@ -1,6 +1,6 @@
-use Rattle.std.proofs.Common.{◌≡◌, ℕ, ◌+◌, ◌-◌, ◌<◌, true, ltb, List, ◌∷◌, ◌++◌, length, drop, set, Ok, sym, refl, ap, ◌∙◌, subst, arith, length-take}
+use Rattle.std.proofs.Common.{◌≡◌, ℕ, ◌+◌, ◌-◌, true, ltb, List, ◌∷◌, ◌++◌, length, drop, set, sym, refl, ap, ◌∙◌, arith, length-take}
 use Rattle.std.proofs.lemmas.Bool.{lt-ltb}
-use Rattle.lines.specs.Feeds.{line_reading, put_after, put_answer}
+use Rattle.lines.specs.Feeds.{line_reading}
 use Rattle.lines.specs.Places.{place_reading}
 use Rattle.lines.proofs.Feeding.{line_back, feed_put}
 use Rattle.lines.proofs.line.write_line.Goals as goal

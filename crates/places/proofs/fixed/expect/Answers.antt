@@ -1,4 +1,4 @@
-use Rattle.std.proofs.Common.{◌≡◌, ℕ, ◌+◌, ◌-◌, List, length, Result, sym, refl, ap, ◌∙◌, arith}
+use Rattle.std.proofs.Common.{◌≡◌, ◌+◌, length, Result, refl, ap, ◌∙◌}
 use Rattle.terms.specs.declared.cause.InputCause.{InputCause}
 use Rattle.terms.specs.declared.cause.InputCause.TheVariants.{NotListed}
 use Rattle.tables.specs.Walks.{part, placed}

@@ -1,6 +1,4 @@
-use Rattle.std.proofs.Common.{◌≡◌, ℕ, ◌+◌, List, length, Ok, Err, Result, sym, refl, ap, ◌∙◌}
-use Rattle.terms.specs.declared.cause.InputCause.{InputCause}
-use Rattle.tables.specs.Walks.{part}
+use Rattle.std.proofs.Common.{ap, ◌∙◌}
 use Rattle.fields.specs.Judging.{verdict}
 use Rattle.fields.specs.Words.{head}
 use Rattle.places.proofs.Levels.{again_holds, again_fails}

@@ -1,4 +1,4 @@
-use Rattle.std.proofs.Common.{◌≡◌, [], ap, ◌∙◌}
+use Rattle.std.proofs.Common.{[], ap, ◌∙◌}
 use Rattle.fields.specs.Judging.{verdict}
 use Rattle.fields.specs.Words.{head}
 use Rattle.places.proofs.Givens.{bytes_kept, bytes_other}

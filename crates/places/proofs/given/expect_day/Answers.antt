@@ -1,4 +1,4 @@
-use Rattle.std.proofs.Common.{◌≡◌, ℕ, ◌+◌, List, [], Some, None, Ok, sym, refl, ap, ◌∙◌}
+use Rattle.std.proofs.Common.{◌≡◌, ◌+◌, [], Some, None, Ok, sym, refl, ap, ◌∙◌}
 use Rattle.terms.specs.declared.cause.InputCause.TheVariants.{NoDate}
 use Rattle.tables.specs.Forms.{read_form}
 use Rattle.tables.specs.Forms.Form.{dates}

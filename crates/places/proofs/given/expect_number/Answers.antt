@@ -1,4 +1,4 @@
-use Rattle.std.proofs.Common.{◌≡◌, ℕ, ◌+◌, ◌-◌, ◌≤◌, List, [], length, Some, None, Ok, sym, ap, ◌∙◌, arith}
+use Rattle.std.proofs.Common.{◌≡◌, ◌-◌, ◌≤◌, [], length, Some, None, Ok, sym, ap, ◌∙◌, arith}
 use Rattle.terms.specs.declared.cause.InputCause.TheVariants.{NotANumber}
 use Rattle.tables.specs.Forms.{read_form}
 use Rattle.tables.specs.Forms.Form.{decimals}

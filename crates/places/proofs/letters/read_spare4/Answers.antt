@@ -1,7 +1,6 @@
-use Rattle.std.proofs.Common.{◌≡◌, ℕ, ◌+◌, List, Ok, Result, sym, refl, ap, ◌∙◌}
+use Rattle.std.proofs.Common.{◌≡◌, ℕ, ◌+◌, Ok, Result, refl, ap, ◌∙◌}
 use Rattle.terms.specs.declared.cause.InputCause.{InputCause}
 use Rattle.tables.specs.Walks.{part, placed, after}
-use Rattle.tables.specs.Kinds.{Rule}
 use Rattle.lines.specs.Faults.{in_field}
 use Rattle.fields.specs.Judging.{verdict}
 use Rattle.fields.specs.Words.{digits_or_spaces, spare_rules}

@@ -1,8 +1,8 @@
-use Rattle.std.proofs.Common.{◌≡◌, ℕ, ◌+◌, ◌-◌, ◌≤◌, List, [], length, Result, sym, refl, ap, ◌∙◌, arith}
+use Rattle.std.proofs.Common.{◌≡◌, ℕ, ◌+◌, length, Result, refl, ap, ◌∙◌, arith}
 use Rattle.std.specs.Result.{result_map_both}
 use Rattle.terms.specs.declared.cause.InputCause.{InputCause}
 use Rattle.tables.specs.Walks.{part, placed, reading}
-use Rattle.lines.specs.Faults.{in_field, of_file}
+use Rattle.lines.specs.Faults.{in_field}
 use Rattle.fields.specs.declared.bank.AccountNumber.{AccountNumber}
 use Rattle.fields.specs.Words.{number}
 use Rattle.places.proofs.Meanings.{number_says}

@@ -1,8 +1,8 @@
-use Rattle.std.proofs.Common.{◌≡◌, ℕ, ◌+◌, ◌-◌, ◌≤◌, List, [], length, Result, sym, refl, ap, ◌∙◌, arith}
+use Rattle.std.proofs.Common.{◌≡◌, ℕ, ◌+◌, List, length, Result, refl, ap, ◌∙◌, arith}
 use Rattle.std.specs.Result.{result_map_both}
 use Rattle.terms.specs.declared.cause.InputCause.{InputCause}
 use Rattle.tables.specs.Walks.{part, placed, reading}
-use Rattle.lines.specs.Faults.{in_field, of_file}
+use Rattle.lines.specs.Faults.{in_field}
 use Rattle.fields.specs.Words.{code}
 use Rattle.fields.specs.Judging.{code_text}
 use Rattle.places.proofs.Levels.{read_at, placed_says}

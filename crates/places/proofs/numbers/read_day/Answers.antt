@@ -1,8 +1,7 @@
-use Rattle.std.proofs.Common.{◌≡◌, ℕ, ◌+◌, ◌-◌, ◌≤◌, List, [], length, Result, sym, refl, ap, ◌∙◌, arith}
-use Rattle.std.specs.Result.{result_map_both}
+use Rattle.std.proofs.Common.{◌≡◌, ℕ, ◌+◌, [], length, Result, refl, ap, ◌∙◌, arith}
 use Rattle.terms.specs.declared.cause.InputCause.{InputCause}
 use Rattle.tables.specs.Walks.{part, placed, reading}
-use Rattle.lines.specs.Faults.{in_field, of_file}
+use Rattle.lines.specs.Faults.{in_field}
 use Rattle.fields.specs.Words.{date}
 use Rattle.places.proofs.Meanings.{date_says}
 use Rattle.places.proofs.Levels.{read_at}

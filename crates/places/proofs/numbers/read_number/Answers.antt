@@ -1,4 +1,4 @@
-use Rattle.std.proofs.Common.{◌≡◌, ℕ, ◌+◌, ◌-◌, ◌^◌, ◌<◌, ◌≤◌, List, [], length, IfOk, Result, sym, refl, ap, ◌∙◌, subst, arith}
+use Rattle.std.proofs.Common.{◌≡◌, ℕ, ◌+◌, ◌-◌, ◌^◌, ◌<◌, length, IfOk, Result, refl, ap, ◌∙◌, subst, arith}
 use Rattle.terms.specs.declared.cause.InputCause.{InputCause}
 use Rattle.tables.specs.Walks.{part, placed, reading}
 use Rattle.lines.specs.Faults.{in_field}

@@ -1,8 +1,7 @@
-use Rattle.std.proofs.Common.{◌≡◌, ℕ, ◌+◌, ◌-◌, ◌*◌, List, [], ◌∷◌, ◌++◌, sym, refl, ap, ◌∙◌, append_assoc, arith}
+use Rattle.std.proofs.Common.{◌≡◌, ℕ, ◌+◌, ◌-◌, List, [], ◌∷◌, ◌++◌, ap, ◌∙◌, append_assoc, arith}
 use Rattle.digits.specs.Decimal.{decimal}
 use Rattle.days.specs.Dates.{year_day}
 use Rattle.tables.specs.Forms.{shown}
-use Rattle.tables.specs.Forms.Form.{decimals}
 use Rattle.places.specs.Fronts.{front}
 use Rattle.places.proofs.puts.put_day.Goals as goal
 

@@ -1,10 +1,9 @@
-use Rattle.std.proofs.Common.{◌≡◌, ℕ, ◌+◌, Bool, false, cond, leb, List, length, Result, sym, refl, ap, ◌∙◌, arith, rules}
+use Rattle.std.proofs.Common.{ℕ, ◌+◌, length, Result, sym, ap, ◌∙◌}
 use Rattle.std.specs.Result.{result_ok}
 use Rattle.std.proofs.lemmas.Bool.{cond-false, cond-true, le-leb, lt-leb}
 use Rattle.terms.specs.declared.cause.InputCause.{InputCause}
 use Rattle.days.specs.Dates.{date_reading}
 use Rattle.tables.specs.Forms.{read_form}
-use Rattle.tables.specs.Walks.{part}
 use Rattle.taking.specs.Taking.{if_open, open_at}
 use Rattle.taking.proofs.taken.opens_day_at.Goals as goal
 

@@ -1,4 +1,4 @@
-use Rattle.std.proofs.Common.{◌≡◌, ◌<◌, true, false, length, take, sym, refl, ◌∙◌, arith, length-take, rules}
+use Rattle.std.proofs.Common.{◌≡◌, ◌<◌, false, length, take, sym, refl, ◌∙◌, arith, length-take, rules}
 use Rattle.std.proofs.lemmas.List.{take_more_set}
 use Rattle.calendars.specs.Entered.{among}
 use Rattle.calendars.proofs.Entries.{apart_push, answer_new, after_new}

@@ -1,6 +1,6 @@
-use Rattle.std.proofs.Common.{◌≡◌, Bool, cond, sym, ap, ◌∙◌}
+use Rattle.std.proofs.Common.{Bool, cond, ap, ◌∙◌}
 use Rattle.lines.specs.Places.{place_reading, stands}
-use Rattle.labels.specs.Volumes.{Vol1Says, has_sun, vol1_marked, vol1_place, vol1_sun, volume}
+use Rattle.labels.specs.Volumes.{Vol1Says, vol1_marked, vol1_sun, volume}
 use Rattle.labels.specs.Volumes.OwnerSays.{marked, numbered}
 use Rattle.labels.proofs.volume_line.Vol1LabelLine.read.Goals as goal
 
