@@ -1,6 +1,6 @@
 -- The walk over the records of a batch comes to what they say.
 use Rattle.std.proofs.Common.{◌≡◌, ℕ, ◌^◌, ◌<◌, Bool, true, false, not, ◌&&◌, List, [], ◌∷◌, ◌++◌, map, Some, None, Option, refl, append_assoc, append-nil}
-use Rattle.std.specs.List.{AllByRecursion as All}
+use Rattle.std.specs.List.{AllByRecursion}
 use Rattle.std.proofs.lemmas.Bool.{and_from, eq-eqb, false≢true, not_from_false}
 use Rattle.tables.specs.Kinds.{Allowed}
 use Rattle.fields.specs.Words.{text, text_rules}
@@ -72,7 +72,7 @@ module _ (g : Setting) where
         (same_payer g.service o a) k (later_said t.processing o n bs t.multi day multi d)
 
     module _ (at : Batch → Said) (day : ℕ) (one : (es : List Entry) (e : Entry) → EntryFits g.service e → Reaches g (at (batch day es)) (payment_image t.multi o day e ∷ []) (at (batch day (es ++ e ∷ [])))) where
-      reach_payments : (done es : List Entry) → All (EntryFits g.service) es → Reaches g (at (batch day done)) (map (payment_image t.multi o day) es) (at (batch day (done ++ es)))
+      reach_payments : (done es : List Entry) → AllByRecursion (EntryFits g.service) es → Reaches g (at (batch day done)) (map (payment_image t.multi o day) es) (at (batch day (done ++ es)))
       reach_payments done [] k = rw (append-nil done) (reach_none g _)
       reach_payments done (e ∷ es) k =
           let all : Reaches g (at (batch day done)) (map (payment_image t.multi o day) (e ∷ es)) (at (batch day ((done ++ e ∷ []) ++ es))) =

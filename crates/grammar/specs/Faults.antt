@@ -1,6 +1,6 @@
 -- The first fault of bytes that are no file, said without a reading.
 use Rattle.std.specs.Prelude.{◌≡◌, ℕ, ◌+◌, true, ◌≢◌, ◌⊎◌, List, [], ◌∷◌, ◌++◌, length}
-use Rattle.std.specs.List.{AllByRecursion as All}
+use Rattle.std.specs.List.{AllByRecursion}
 use Rattle.tables.specs.Lines.{line_width}
 use Rattle.lines.specs.declared.fault.Fault.{Fault}
 use Rattle.lines.specs.declared.fault.FileFault.{FileFault}
@@ -51,7 +51,7 @@ pub record FirstFileFault (g : Setting) (bytes : List ℕ) (f : Fault) : Type 0 
   -- the lines that follow, and what is left after the last line feed
   pub lines : List (List ℕ)
   pub rest : List ℕ
-  pub lines_plain : All (λ l. plain l ≡ true) lines
+  pub lines_plain : AllByRecursion (λ l. plain l ≡ true) lines
   pub rest_plain : plain rest ≡ true
   pub is : bytes ≡ feeds (lines_of g spare said ++ lines) ++ rest
   pub fault : FileFault

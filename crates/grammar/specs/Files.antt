@@ -1,6 +1,6 @@
 -- The grammar: the lines of a file, or of a beginning of one, and what may stand in them.
 use Rattle.std.specs.Prelude.{◌≡◌, ℕ, suc, ◌+◌, ◌^◌, ◌<◌, ◌≤◌, Bool, true, false, cond, List, [], ◌∷◌, ◌++◌, map, None, codes}
-use Rattle.std.specs.List.{flat_map, AllByRecursion as All}
+use Rattle.std.specs.List.{flat_map, AllByRecursion}
 use Rattle.terms.specs.declared.service.Service.{Service}
 use Rattle.terms.specs.declared.service.Service.TheVariants.{Credits}
 use Rattle.tables.specs.Kinds.{Allowed}
@@ -176,7 +176,7 @@ some (x ∷ xs) = true
 pub record OpenFits (g : Setting) (t : Top) (from : ℕ) (b : Batch) : Type 0 where
   pub day : DayFits g t.multi t.processing from b.day
   pub some : some b.payments ≡ true
-  pub payments : All (EntryFits g.service) b.payments
+  pub payments : AllByRecursion (EntryFits g.service) b.payments
 
 -- one with its contra, whose total has eleven digits
 pub record BatchFits (g : Setting) (t : Top) (from : ℕ) (b : Batch) : Type 0 where

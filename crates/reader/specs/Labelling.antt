@@ -4,7 +4,7 @@ use Rattle.grammar.specs.Headings.{Top}
 use Rattle.grammar.specs.Next.{Said, top}
 use Rattle.grammar.specs.Next.Paid.{none}
 use Rattle.grammar.specs.Next.Said.{paid}
-use Rattle.reader.specs.declared.labels.Labels.{Labels}
+use Rattle.reader.specs.declared.label_values.Labels.{Labels}
 
 abbrev pub labels_top : Labels → Top
 labels_top l = top (owner_says l.owner) l.serial l.header l.multi l.processing l.number

@@ -1,5 +1,5 @@
 //! Reads a file: judges it line by line in one pass, and hands out its heading and payments.
 #![tactic(auto)]
 
-mod labels;
+mod label_values;
 mod read_labels;

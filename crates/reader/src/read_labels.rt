@@ -5,7 +5,7 @@ ghost use Rattle.taking.specs.Taking.{carried};
 ghost use Rattle.reader.specs.Labelling.{after_labels};
 ghost use Rattle.reader.specs.Settings.{setting};
 
-use crate::labels::Labels;
+use crate::label_values::Labels;
 use calendars::Calendar;
 use labels::{
     Hdr1Context, Hdr1Label, Hdr2, Hdr2Context, Hdr2Label, Uhl1, Uhl1Context, Uhl1Label, Vol1,
