@@ -1,12 +1,21 @@
 -- With fifteen fields the first ones lie too far back for the search, so each is put to use by hand.
-use Rattle.std.proofs.Common.{sym}
+use Rattle.std.proofs.Common.{refl}
 use Rattle.std.proofs.lemmas.Result.{err_from_is_err_and}
+use Rattle.labels.proofs.Fields.{past, stops}
 use Rattle.labels.proofs.header_line.Hdr1LabelLine.read.Goals as goal
 
 pub returns-in_err-expect_spaces-2 : goal.returns-in_err-expect_spaces-2
 returns-in_err-expect_spaces-2 c =
     let p = err_from_is_err_and c.from_residual-in_err-expect_spaces-2.result c.from_residual-in_err-expect_spaces-2.ensures.1 in
-    rw (p.1, p.2, sym c.in_ok-expect.ensures, sym c.in_ok-user.ensures, sym c.in_ok-expect-2.ensures, sym c.in_ok-expect_spaces.ensures, sym c.in_ok-version.ensures, sym c.in_ok-user_again.ensures, sym c.in_ok-expect6.ensures, sym c.in_ok-expect-3.ensures, sym c.in_ok-spare4.ensures, sym c.in_ok-spare2.ensures, sym c.in_ok-creation.ensures, sym c.in_ok-expiry.ensures, sym c.in_ok-access.ensures, sym c.in_ok-expect-4.ensures, sym c.in_err-expect_spaces-2.ensures)
+    rw (p.1, p.2)
+    (past _ c.in_ok-expect.ensures (past _ c.in_ok-user.ensures (past _ c.in_ok-expect-2.ensures (past _ c.in_ok-expect_spaces.ensures (past _ c.in_ok-version.ensures
+    (past _ c.in_ok-user_again.ensures (past _ c.in_ok-expect6.ensures (past _ c.in_ok-expect-3.ensures (past _ c.in_ok-spare4.ensures (past _ c.in_ok-spare2.ensures
+    (past _ c.in_ok-creation.ensures (past _ c.in_ok-expiry.ensures (past _ c.in_ok-access.ensures
+    (past _ c.in_ok-expect-4.ensures (stops _ c.in_err-expect_spaces-2.ensures)))))))))))))))
 
 pub returns : goal.returns
-returns c = rw (sym c.in_ok-expect.ensures, sym c.in_ok-user.ensures, sym c.in_ok-expect-2.ensures, sym c.in_ok-expect_spaces.ensures, sym c.in_ok-version.ensures, sym c.in_ok-user_again.ensures, sym c.in_ok-expect6.ensures, sym c.in_ok-expect-3.ensures, sym c.in_ok-spare4.ensures, sym c.in_ok-spare2.ensures, sym c.in_ok-creation.ensures, sym c.in_ok-expiry.ensures, sym c.in_ok-access.ensures, sym c.in_ok-expect-4.ensures, sym c.in_ok-expect_spaces-2.ensures)
+returns c =
+    past _ c.in_ok-expect.ensures (past _ c.in_ok-user.ensures (past _ c.in_ok-expect-2.ensures (past _ c.in_ok-expect_spaces.ensures (past _ c.in_ok-version.ensures
+    (past _ c.in_ok-user_again.ensures (past _ c.in_ok-expect6.ensures (past _ c.in_ok-expect-3.ensures (past _ c.in_ok-spare4.ensures (past _ c.in_ok-spare2.ensures
+    (past _ c.in_ok-creation.ensures (past _ c.in_ok-expiry.ensures (past _ c.in_ok-access.ensures (past _ c.in_ok-expect-4.ensures
+    (past _ c.in_ok-expect_spaces-2.ensures refl))))))))))))))
