@@ -32,7 +32,6 @@ def main():
             names = set(re.findall(r"^(?:abbrev |pub )*([\w-]+) : goal\.", old, flags=re.M))
             new = PLACE.sub(turn, old)
             for n in names:
-                m = re.match(r"[\w-]+", n)
                 t = n
                 for shape, word in known:
                     t = shape.sub(word, t)

@@ -1,6 +1,6 @@
 ghost use Rattle.std.specs.Prelude.{◌≡◌, ◌≤◌, true, [], length, take};
 ghost use Rattle.calendars.specs.Entered.{among, apart, entry_answer, entry_after, less, EnteringClosesOne};
-ghost use Rattle.std.proofs.Common.{rules, arith};
+ghost use Rattle.std.proofs.Common.{rules};
 
 use crate::Calendar;
 use days::LAST_DAY;
@@ -70,7 +70,7 @@ impl<C> ClosedDays<C> {
 impl<C: Calendar> Calendar for ClosedDays<C> {
     ghost opens = { λ c. less (C.Calendar.opens c.below) (take c.count c.entered) };
 
-    ghost within = { first_of (Prim.search rules, Prim.grind (arith, Self.row.coded.inj)) };
+    ghost within = { Prim.search rules };
 
     fn is_open(&self, day: u32) -> bool {
         self.below.is_open(day) && !self.holds(day)

@@ -39,9 +39,9 @@ impl Line for Hdr1Label {
 
     ghost tiled = { Prim.search rules };
 
-    ghost unbroken = { λ c v h. hdr1_unbroken c v h };
+    ghost unbroken = { hdr1_unbroken };
 
-    ghost back = { λ c v h. hdr1_back c v h };
+    ghost back = { hdr1_back };
 
     fn width() -> usize {
         Self::LENGTH

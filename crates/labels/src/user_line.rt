@@ -39,9 +39,9 @@ impl Line for Uhl1Label {
 
     ghost tiled = { Prim.search rules };
 
-    ghost unbroken = { λ k u a. uhl1_unbroken k u a };
+    ghost unbroken = { uhl1_unbroken };
 
-    ghost back = { λ k u a. uhl1_back k u a };
+    ghost back = { uhl1_back };
 
     fn width() -> usize {
         Self::LENGTH

@@ -1,7 +1,7 @@
 -- No field of an allowed value holds a line feed, so no line that is written does.
 use Rattle.std.proofs.Common.{◌≡◌, ℕ, Bool, true, false, cond, not, ◌&&◌, eqb, leb, List, [], ◌∷◌, ◌++◌, Some, sym, refl, subst, inl, inr, arith}
 use Rattle.std.specs.Char.{is_ascii_digit}
-use Rattle.std.specs.List.{AllByRecursion as All}
+use Rattle.std.specs.List.{AllByRecursion}
 use Rattle.std.specs.Str.{bytes_eq}
 use Rattle.std.proofs.lemmas.Slice.Eq.{bytes_eq-Decides}
 use Rattle.std.proofs.lemmas.Bool.{and_from, and_parts, or_cases, false≢true, both_ways, eqb-true, leb-true, ne_eqb, not_from_false}
@@ -23,7 +23,7 @@ use Rattle.lines.specs.Feeds.{plain}
 use Rattle.places.specs.Given.{letters_given}
 
 abbrev pub PlainLines : List (List ℕ) → Type 0
-PlainLines ls = All (λ l. plain l ≡ true) ls
+PlainLines ls = AllByRecursion (λ l. plain l ≡ true) ls
 
 plain_append : (xs ys : List ℕ) → plain xs ≡ true → plain ys ≡ true → plain (xs ++ ys) ≡ true
 plain_append [] ys h k = k

@@ -15,9 +15,6 @@ use lines::Fault;
 use taking::{opens_day_at, take_line};
 use terms::Service;
 
-/// How many bytes the four labels take with their line feeds.
-pub(crate) const LABEL_BYTES: usize = 324;
-
 /// The bytes behind a label and its line feed.
 fn behind_label(bytes: &[u8]) -> &[u8]
     requires { 81 ≤ length bytes.now }

@@ -4,6 +4,7 @@ use Rattle.terms.specs.declared.service.Service.{Service}
 use Rattle.terms.specs.declared.service.Service.TheVariants.{Credits, Debits, FasterPayments}
 use Rattle.tables.specs.Lines.{line_width}
 use Rattle.tables.specs.Walks.{after, field_reading, fields_reading}
+use Rattle.tables.proofs.Fields.{past}
 use Rattle.fields.specs.Words.{contra_code_text, head}
 use Rattle.lines.specs.declared.fault.FileFault.{FileFault}
 use Rattle.lines.specs.Faults.{fault_of}
@@ -29,7 +30,7 @@ module _ (g : Service) (o : Originator) (total : ℕ) (n : Option (List ℕ)) (l
       fields_reading fault_of ContraSays (body_fields g o total n []) contra_of (15 + k) l))))
 
   pub body_read : (r : Result ContraSays FileFault) → Ok o.sort_code.value ≡ field_reading fault_of (digits_given 6 (Some o.sort_code.value)) 0 l → Ok o.account.value ≡ field_reading fault_of (digits_given 8 (Some o.account.value)) 6 l → Ok tt ≡ field_reading fault_of (head (codes "0")) 14 l → Ok tt ≡ field_reading fault_of (head (contra_code_text g)) 15 l → r ≡ fields_reading fault_of ContraSays (body_fields g o total n []) contra_of 17 l → r ≡ place_reading (contra_place g o total n) l
-  body_read r p q s t e = (let h : r ≡ walked 2 = rw (sym p, sym q, sym s, sym t) e in h) ∙ ap walked (two g)
+  body_read r p q s t e = past _ p (past _ q (past _ s (past _ t e))) ∙ ap walked (two g)
 
   wide : (g : Service) → line_width (contra_table g o total n) ≡ 100
   wide Credits = refl

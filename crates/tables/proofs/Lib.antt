@@ -1,3 +1,4 @@
+pub mod Fields
 pub mod Judging
 pub mod Showing
 pub mod Tiling

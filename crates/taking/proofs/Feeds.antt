@@ -1,6 +1,7 @@
 -- The first line feed parts the bytes into a line and what follows; where there is none, they hold no line feed.
 use Rattle.std.proofs.Common.{◌≡◌, ℕ, ◌+◌, ◌<◌, Bool, true, false, cond, eqb, List, [], ◌∷◌, ◌++◌, length, take, Some, None, Ok, Err, Option, Result, sym, refl, ap, ◌∙◌, arith, length-append}
 use Rattle.std.proofs.lemmas.Bool.{and_from, eqb-true, not_from_false}
+use Rattle.std.proofs.lemmas.List.{take_at}
 use Rattle.lines.specs.declared.fault.FileFault.{FileFault}
 use Rattle.lines.specs.declared.fault.FileFault.TheVariants.{Line}
 use Rattle.lines.specs.declared.fault.LineFault.TheVariants.{WrongLength}
@@ -46,20 +47,30 @@ feed_some (b ∷ bs) k m h = go (eqb b 10) refl h (feed_some bs (k + 1) m)
           at = omega arith;
         }
 
--- a line that is read has its line feed within the bytes
-pub read_within : {X : Type 0} (long : ℕ) (reading : List ℕ → Result X FileFault) (bs : List ℕ) (x : X) → Ok x ≡ line_reading long reading bs → long < length bs
-read_within {X} long reading bs x h = go (feed_from 0 bs) refl h
-  where
-    no_ok : {x : X} {e : FileFault} → ◌≡◌ {A = Result X FileFault} (Ok x) (Err e) → ⊥
-    no_ok q = let z : ◌≡◌ {A = ℕ} 0 1 = cc in omega arith
+-- x is read of a line of `long` bytes at the front
+pub record ReadOf {X : Type 0} (long : ℕ) (reading : List ℕ → Result X FileFault) (bs : List ℕ) (x : X) : Type 0 where
+  pub line : List ℕ
+  pub tail : List ℕ
+  pub is : bs ≡ line ++ 10 ∷ tail
+  pub wide : length line ≡ long
+  pub read : Ok x ≡ reading line
 
-    sized : (m : ℕ) → feed_from 0 bs ≡ Some m → (t : Bool) → eqb m long ≡ t → Ok x ≡ cond t (reading (take long bs)) (Err (Line WrongLength)) → long < length bs
+pub read_of : {X : Type 0} (long : ℕ) (reading : List ℕ → Result X FileFault) (bs : List ℕ) (x : X) → Ok x ≡ line_reading long reading bs → ReadOf long reading bs x
+read_of {X} long reading bs x h = go (feed_from 0 bs) refl h
+  where
+    sized : (m : ℕ) → feed_from 0 bs ≡ Some m → (t : Bool) → eqb m long ≡ t → Ok x ≡ cond t (reading (take long bs)) (Err (Line WrongLength)) → ReadOf long reading bs x
     sized m e true s q =
         let f = feed_some bs 0 m e in
-        let wide = ap length f.is ∙ length-append f.front (10 ∷ f.tail) in
-        omega (arith, eqb-true m long s, f.at, wide)
-    sized m e false s q = absurd (no_ok q)
+        let wide : length f.front ≡ long = omega (arith, eqb-true m long s, f.at) in
+        record { line = f.front; tail = f.tail; is = f.is; wide = wide; read = q ∙ ap reading (ap (take long) f.is ∙ take_at f.front (10 ∷ f.tail) long wide) }
+    sized m e false s q = cc
 
-    go : (o : Option ℕ) → feed_from 0 bs ≡ o → Ok x ≡ cut_reading long reading bs o → long < length bs
-    go None e q = absurd (no_ok q)
+    go : (o : Option ℕ) → feed_from 0 bs ≡ o → Ok x ≡ cut_reading long reading bs o → ReadOf long reading bs x
+    go None e q = cc
     go (Some m) e q = sized m e (eqb m long) refl q
+
+-- a line that is read has its line feed within the bytes
+pub read_within : {X : Type 0} (long : ℕ) (reading : List ℕ → Result X FileFault) (bs : List ℕ) (x : X) → Ok x ≡ line_reading long reading bs → long < length bs
+read_within long reading bs x h =
+    let r = read_of long reading bs x h in
+    omega (arith, r.wide, ap length r.is ∙ length-append r.line (10 ∷ r.tail))

@@ -86,20 +86,21 @@ module _ (g : Setting) (n : ℕ) (bytes : List ℕ) where
     by_flag : (l : List ℕ) (flag : Bool) → flag ≡ if_open g.opens (read_form dates (part 4 10 l)) → place_reading (labels_place g.opens) l ≡ place_reading (labels_place (λ _. flag)) l
     by_flag l flag e = let day = looked_up test g.opens 4 l flag e in simp day
 
-    abbrev context : Uhl1Context
-    context = record { service = g.service; opening = g.opening; creation = h.creation; expiry = h.expiry; multi = multi; «open» = open_at g.opens 4 bytes }
+    -- by whether the day that stands there is open
+    abbrev pub user_context : Bool → Uhl1Context
+    user_context usable = record { service = g.service; opening = g.opening; creation = h.creation; expiry = h.expiry; multi = multi; «open» = usable }
 
     by_set : Agrees g n (sized o s h multi) 80 after_labels (λ l. place_reading (labels_place g.opens) l) bytes
     by_set =
         table_agrees g n (sized o s h multi) 80 bytes after_labels (labels_place g.opens).table (λ d code n audit spare. labelled d n)
         (λ d code n audit spare. after_labels (labelled d n)) (λ l tail is. refl) refl (λ v. refl) refl
 
-    pub user_agrees : Agrees g n (sized o s h multi) 80 after_labels (λ l. place_reading (uhl1_place context) l) bytes
-    user_agrees = record {
+    pub user_agrees : (usable : Bool) → usable ≡ open_at g.opens 4 bytes → Agrees g n (sized o s h multi) 80 after_labels (λ l. place_reading (uhl1_place (user_context usable)) l) bytes
+    user_agrees usable known = record {
       same = λ l tail is w.
           let late : 4 + 6 ≤ length l = omega arith in
           by_set.same l tail is w
-          ∙ ap (result_map_both after_labels (λ e. e)) (by_flag l (open_at g.opens 4 bytes) (ap (open_at g.opens 4) is ∙ open_in_line g.opens 4 l (10 ∷ tail) late));
+          ∙ ap (result_map_both after_labels (λ e. e)) (by_flag l usable (known ∙ ap (open_at g.opens 4) is ∙ open_in_line g.opens 4 l (10 ∷ tail) late));
       other = by_set.other;
       ends = refl;
     }

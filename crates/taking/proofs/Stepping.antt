@@ -97,12 +97,17 @@ module _ {X : Type 0} (g : Setting) (n : ℕ) (s : Said) (long : ℕ) (k : X →
           ∙ some_line a m f (eqb m long) refl
           ∙ ap goes_on (sym e)
 
-  -- the line is read as x, or has the fault e
-  pub went : Agrees → (x : X) → Ok x ≡ taking n long rd bytes → reading_on g n s bytes ≡ reading_on g (n + 1) (k x) (drop (long + 1) bytes)
-  went a x h = on_line a ∙ ap (λ (r : Result X Fault). carried r later) (sym h)
+-- The line is read as x, and rest is behind it; or it has the fault e.
 
-  pub failed : Agrees → (e : Fault) → Err e ≡ taking n long rd bytes → reading_on g n s bytes ≡ refused e
-  failed a e h = on_line a ∙ ap (λ (r : Result X Fault). carried r later) (sym h)
+pub went : {X : Type 0} {g : Setting} {n : ℕ} {s : Said} {long : ℕ} {k : X → Said} {rd : List ℕ → Result X FileFault} {bytes : List ℕ} → Agrees g n s long k rd bytes → (x : X) (rest : List ℕ) → rest ≡ drop (long + 1) bytes → Ok x ≡ taking n long rd bytes → reading_on g n s bytes ≡ reading_on g (n + 1) (k x) rest
+went {X} {g} {n} {s} {long} {k} {rd} {bytes} a x rest is h =
+    on_line g n s long k rd bytes a
+    ∙ ap (λ (r : Result X Fault). carried r (later g n s long k rd bytes)) (sym h)
+    ∙ ap (reading_on g (n + 1) (k x)) (sym is)
+
+pub failed : {X : Type 0} {g : Setting} {n : ℕ} {s : Said} {long : ℕ} {k : X → Said} {rd : List ℕ → Result X FileFault} {bytes : List ℕ} → Agrees g n s long k rd bytes → (e : Fault) → Err e ≡ taking n long rd bytes → reading_on g n s bytes ≡ refused e
+failed {X} {g} {n} {s} {long} {k} {rd} {bytes} a e h =
+    on_line g n s long k rd bytes a ∙ ap (λ (r : Result X Fault). carried r (later g n s long k rd bytes)) (sym h)
 
 -- One table stands there, whatever the line.
 pub table_agrees : {X : Type 0} (g : Setting) (n : ℕ) (s : Said) (long : ℕ) (bytes : List ℕ) (k : X → Said) (t : Table) (make : By t X) (add : By t Said) → ((l tail : List ℕ) → bytes ≡ l ++ 10 ∷ tail → next g s l ≡ comes (stands t add)) → line_width t ≡ long → ((v : Values t) → at_values Said t add v ≡ k (at_values X t make v)) → finish n s bytes ≡ no_line n bytes → Agrees g n s long k (λ l. place_reading (stands t make) l) bytes

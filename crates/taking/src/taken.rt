@@ -25,13 +25,15 @@ pub fn take_line<L: Line>(
 
 /// Whether the calendar opens the day that stands after the first `from` bytes, if one stands there.
 pub fn opens_day_at<C: Calendar>(calendar: &C, bytes: &[u8], from: usize) -> bool
-    requires { from ≤ 106 }
     ensures { result ≡ open_at (C.Calendar.opens calendar.now) from bytes.now }
 {
-    if bytes.len() < from + 6 {
+    let Some(to) = from.checked_add(6) else {
+        return false;
+    };
+    if bytes.len() < to {
         return false;
     }
-    match read_date(part(bytes, from, from + 6)) {
+    match read_date(part(bytes, from, to)) {
         Ok(day) => calendar.is_open(day),
         Err(_) => false,
     }

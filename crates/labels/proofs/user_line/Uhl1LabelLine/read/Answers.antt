@@ -1,7 +1,7 @@
 -- With eleven fields the first ones lie too far back for the search, so each is put to use by hand.
 use Rattle.std.proofs.Common.{refl}
 use Rattle.std.proofs.lemmas.Result.{err_from_is_err_and}
-use Rattle.labels.proofs.Fields.{past, stops}
+use Rattle.tables.proofs.Fields.{past, stops}
 use Rattle.labels.proofs.user_line.Uhl1LabelLine.read.Goals as goal
 
 pub returns-in_err-expect_spaces-3 : goal.returns-in_err-expect_spaces-3

@@ -1,7 +1,7 @@
 -- With sixteen fields the first ones lie too far back for the search, so each is put to use by hand.
 use Rattle.std.proofs.Common.{refl}
 use Rattle.std.proofs.lemmas.Result.{err_from_is_err_and}
-use Rattle.labels.proofs.Fields.{past, stops}
+use Rattle.tables.proofs.Fields.{past, stops}
 use Rattle.trailers.proofs.repeat_line.Eof1LabelLine.read.Goals as goal
 
 pub returns-in_err-expect_day : goal.returns-in_err-expect_day
