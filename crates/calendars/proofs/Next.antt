@@ -1,4 +1,4 @@
--- `next-member` is the least member, and the only one; and what it is in a part of a set.
+-- `next_member` is the least member, and the only one; and what it is in a part of a set.
 use Rattle.std.proofs.Common.{◌≡◌, ℕ, zero, suc, ◌+◌, ◌-◌, ◌<◌, ◌≤◌, Bool, true, false, cond, Some, None, Option, sym, refl, ap, ◌∙◌, ⊎_elim, le_antisymm, eq-or-lt_of_le, arith}
 use mathlib.Core.Path.{subst⁻¹}
 use borrow.Author.Tests.{both_ways}
@@ -35,7 +35,7 @@ pub next_is_least : (f : ℕ → Bool) → Within f → (d : ℕ) → Least f d 
 unfolding next_member
 next_is_least f w d = least_among f w d (d + (36525 - d)) (omega arith) (next_member f d) (first_among f (36525 - d) d)
 
--- an answer that is `next-member` is the least member
+-- an answer that is `next_member` is the least member
 pub least_from : (f : ℕ → Bool) → Within f → (d : ℕ) (o : Option ℕ) → o ≡ next_member f d → Least f d o
 least_from f w d o e = subst⁻¹ (λ (x : Option ℕ). Least f d x) e (next_is_least f w d)
 
@@ -46,7 +46,7 @@ one_least f d None (Some e) a b = absurd (a e b.0 b.1)
 one_least f d (Some e) None a b = absurd (b e a.0 a.1)
 one_least f d (Some e) (Some k) a b = ap Some (le_antisymm (a.2 k b.0 b.1) (b.2 e a.0 a.1))
 
--- an answer that is the least member is `next-member`
+-- an answer that is the least member is `next_member`
 pub named_from : (f : ℕ → Bool) → Within f → (d : ℕ) (o : Option ℕ) → Least f d o → o ≡ next_member f d
 named_from f w d o l = one_least f d o (next_member f d) l (next_is_least f w d)
 
