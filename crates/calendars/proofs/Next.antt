@@ -2,7 +2,7 @@
 use Rattle.std.proofs.Common.{◌≡◌, ℕ, zero, suc, ◌+◌, ◌-◌, ◌<◌, ◌≤◌, Bool, true, false, cond, Some, None, Option, sym, refl, ap, ◌∙◌, ⊎_elim, le_antisymm, eq-or-lt_of_le, arith}
 use mathlib.Core.Path.{subst⁻¹}
 use borrow.Author.Tests.{both_ways}
-use Rattle.calendars.specs.Sets.{first_of, next_member, Within, Least}
+use Rattle.calendars.specs.Sets.{first_member, next_member, Within, Least}
 
 -- the least member, of the days from d to before `end` alone
 abbrev Among : (ℕ → Bool) → ℕ → ℕ → Option ℕ → Type 0
@@ -20,12 +20,12 @@ step f d end true o t a = (omega arith, t, λ k h _. h)
 step f d end false None t a = λ k h l y. at_or_past d k h (clash f d k t y) (λ m. a k m l y)
 step f d end false (Some e) t a = (omega (arith, a.0), a.1, λ k h y. at_or_past d k h (λ q. absurd (clash f d k t y q)) (λ m. a.2 k m y))
 
-first_among : (f : ℕ → Bool) (n d : ℕ) → Among f d (d + n) (first_of f n d)
-unfolding first_of
+first_among : (f : ℕ → Bool) (n d : ℕ) → Among f d (d + n) (first_member f n d)
+unfolding first_member
 first_among f zero d = λ k h l y. omega arith
 first_among f (suc n) d =
     let e : suc d + n ≡ d + suc n = omega arith in
-    step f d (d + suc n) (f d) (first_of f n (suc d)) refl (rw e at (first_among f n (suc d)))
+    step f d (d + suc n) (f d) (first_member f n (suc d)) refl (rw e at (first_among f n (suc d)))
 
 least_among : (f : ℕ → Bool) → Within f → (d end : ℕ) → 36524 < end → (o : Option ℕ) → Among f d end o → Least f d o
 least_among f w d end h None a = λ k l y. a k l (omega (arith, w k y)) y

@@ -5,13 +5,13 @@ use Rattle.terms.specs.declared.cause.InputCause.TheVariants.{NoDate}
 use Rattle.days.specs.Dates.{first_day_of, year_length}
 
 -- the first of the n days from d on that is in the set
-unfoldable pub first_of : (ℕ → Bool) → ℕ → ℕ → Option ℕ
-first_of f zero d = None
-first_of f (suc n) d = cond (f d) (Some d) (first_of f n (suc d))
+unfoldable pub first_member : (ℕ → Bool) → ℕ → ℕ → Option ℕ
+first_member f zero d = None
+first_member f (suc n) d = cond (f d) (Some d) (first_member f n (suc d))
 
 -- the least member not below d
 unfoldable pub next_member : (ℕ → Bool) → ℕ → Option ℕ
-next_member f d = first_of f (36525 - d) d
+next_member f d = first_member f (36525 - d) d
 
 -- the set has no member past the last day
 abbrev pub Within : (ℕ → Bool) → Type 0
