@@ -2,6 +2,8 @@
 use Rattle.std.proofs.Common.{◌≡◌, ℕ, zero, suc, ◌+◌, ◌-◌, ◌<◌, ◌≤◌, Bool, true, false, cond, Some, None, Option, sym, refl, ap, ◌∙◌, ⊎_elim, le_antisymm, eq-or-lt_of_le, arith}
 use mathlib.Core.Path.{subst⁻¹}
 use borrow.Author.Tests.{both_ways}
+use Rattle.std.specs.Option.{MatchOption}
+use Rattle.std.proofs.lemmas.Bool.{cases_lt}
 use Rattle.calendars.specs.Sets.{first_member, next_member, Within, Least}
 
 -- the least member, of the days from d to before `end` alone
@@ -36,7 +38,7 @@ unfolding next_member
 next_is_least f w d = least_among f w d (d + (36525 - d)) (omega arith) (next_member f d) (first_among f (36525 - d) d)
 
 -- an answer that is `next_member` is the least member
-pub least_from : (f : ℕ → Bool) → Within f → (d : ℕ) (o : Option ℕ) → o ≡ next_member f d → Least f d o
+least_from : (f : ℕ → Bool) → Within f → (d : ℕ) (o : Option ℕ) → o ≡ next_member f d → Least f d o
 least_from f w d o e = subst⁻¹ (λ (x : Option ℕ). Least f d x) e (next_is_least f w d)
 
 -- there is one least member
@@ -50,10 +52,19 @@ one_least f d (Some e) (Some k) a b = ap Some (le_antisymm (a.2 k b.0 b.1) (b.2 
 pub named_from : (f : ℕ → Bool) → Within f → (d : ℕ) (o : Option ℕ) → Least f d o → o ≡ next_member f d
 named_from f w d o l = one_least f d o (next_member f d) l (next_is_least f w d)
 
+-- a member that is found first, of the days from a to before b, is the least not below d, where no other days from d on are members
+pub least_found : (f : ℕ → Bool) (d a b : ℕ) → d ≤ a → ((k : ℕ) → d ≤ k → f k ≡ true → (a ≤ k) × (k < b)) → (o : Option ℕ) → MatchOption o ((k : ℕ) → a ≤ k → k < b → f k ≡ false) (λ e. (a ≤ e) × (e < b) × (f e ≡ true) × ((k : ℕ) → a ≤ k → k < e → f k ≡ false)) → Least f d o
+least_found f d a b low in' None m = λ k h y. let p = in' k h y in both_ways (f k) (m k p.0 p.1) y
+least_found f d a b low in' (Some e) m =
+    (omega (arith, m.0), m.2, λ k h y. ⊎_elim (λ (l : k < e). absurd (both_ways (f k) (m.3 k (in' k h y).0 l) y)) (λ (l : e ≤ k). l) (cases_lt k e))
+
 -- h is a part of f: where f has no member, h has none, and the least member of f is passed over if h lacks it
 module _ (f h : ℕ → Bool) (w : Within f) (part : (k : ℕ) → h k ≡ true → f k ≡ true) where
   part_within : Within h
   part_within k y = w k (part k y)
+
+  pub part_least : (d : ℕ) (o : Option ℕ) → o ≡ next_member h d → Least h d o
+  part_least = least_from h part_within
 
   pub part_none : (d : ℕ) → Least f d None → None ≡ next_member h d
   part_none d l = named_from h part_within d None (λ k b y. l k b (part k y))

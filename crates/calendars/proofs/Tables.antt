@@ -1,6 +1,6 @@
 -- The set of a year table, day by day.
-use Rattle.std.proofs.Common.{◌≡◌, ℕ, ◌+◌, ◌-◌, ◌<◌, ◌≤◌, Bool, true, false, ◌&&◌, ltb, leb, List, get_or, refl, arith}
-use Rattle.std.proofs.lemmas.Bool.{and_parts, leb-true, le-leb, ltb-true, lt-ltb}
+use Rattle.std.proofs.Common.{◌≡◌, ℕ, ◌+◌, ◌-◌, ◌<◌, ◌≤◌, Bool, true, false, ◌&&◌, ltb, leb, List, get_or, arith}
+use Rattle.std.proofs.lemmas.Bool.{and_parts, leb-true, ltb-true}
 use Rattle.std.proofs.lemmas.Bool.Decides.{nat_tests}
 use Rattle.days.specs.Dates.{first_day_of, year_length}
 use Rattle.calendars.specs.Sets.{table_days, Within}
@@ -14,10 +14,3 @@ in_table y flags d t =
 
 pub table_within : (y : ℕ) (flags : List Bool) → y ≤ 99 → Within (table_days y flags)
 table_within y flags small d t = let p = in_table y flags d t in grind (arith, nat_tests)
-
--- a day of the year is in the table exactly if its flag is true
-pub by_flag : (y : ℕ) (flags : List Bool) (d : ℕ) → first_day_of y ≤ d → d < first_day_of y + year_length y → table_days y flags d ≡ get_or flags (d - first_day_of y) false
-by_flag y flags d low high =
-    let a : leb (first_day_of y) d ≡ true = le-leb (first_day_of y) d low in
-    let b : ltb d (first_day_of y + year_length y) ≡ true = lt-ltb d (first_day_of y + year_length y) high in
-    rw (a, b) refl

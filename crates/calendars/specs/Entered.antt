@@ -1,13 +1,13 @@
 -- A list of entered days: which are in it, and what entering one more does.
-use Rattle.std.specs.Prelude.{◌≡◌, ℕ, Bool, true, false, cond, not, ◌&&◌, ◌||◌, List, [], ◌∷◌, ◌++◌, length, is_ok, Ok, Err, Result, ◌==◌, nat_le, nat_lt}
+use Rattle.std.specs.Prelude.{◌≡◌, ℕ, Bool, true, cond, not, ◌&&◌, List, [], ◌∷◌, ◌++◌, length, is_ok, Ok, Err, Result, ◌==◌, nat_le, nat_lt}
+use Rattle.std.specs.List.{list_any}
 use Rattle.terms.specs.declared.cause.Cause.{Cause}
 use Rattle.terms.specs.declared.cause.Cause.TheVariants.{Input, State}
 use Rattle.terms.specs.declared.cause.InputCause.TheVariants.{NoDate}
 use Rattle.terms.specs.declared.cause.StateCause.TheVariants.{TableFull}
 
 abbrev pub among : List ℕ → ℕ → Bool
-among [] d = false
-among (x ∷ xs) d = x == d || among xs d
+among xs d = list_any (λ x. x == d) xs
 
 -- no day stands in it twice
 abbrev pub apart : List ℕ → Bool

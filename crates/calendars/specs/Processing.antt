@@ -1,5 +1,6 @@
 -- Processing days: the earliest, the last that a file may use, and how many open days lie between.
-use Rattle.std.specs.Prelude.{ℕ, zero, suc, ◌+◌, ◌-◌, min, Bool, cond, Some, Ok, Err, Option, Result, nat_le}
+use Rattle.std.specs.Prelude.{ℕ, ◌+◌, ◌-◌, min, Bool, cond, Some, Ok, Err, Option, Result, nat_le, count_by}
+use Rattle.std.specs.List.{range_with_len}
 use Rattle.std.specs.Option.{option_map}
 use Rattle.terms.specs.declared.cause.InputCause.{InputCause}
 use Rattle.terms.specs.declared.cause.InputCause.TheVariants.{NoDate}
@@ -27,14 +28,9 @@ days_after FasterPayments = 0
 abbrev pub last_usable : Service → ℕ → ℕ
 last_usable s p = min (p + days_after s) 36524
 
--- how many of the n days from d on are in the set
-unfoldable pub members : (ℕ → Bool) → ℕ → ℕ → ℕ
-members f zero d = 0
-members f (suc n) d = cond (f d) 1 0 + members f n (suc d)
-
 -- how many days from a to b are in the set; no day is past 36,524
 abbrev pub open_count : (ℕ → Bool) → ℕ → ℕ → ℕ
-open_count f a b = members f (suc (min b 36524) - a) a
+open_count f a b = count_by f (range_with_len a (min b 36524 + 1 - a))
 
 abbrev pub usable_from : Service → (ℕ → Bool) → ℕ → UsableDays
 usable_from s f p = record { first = p; last = last_usable s p; open_days = open_count f p (last_usable s p) }

@@ -1,8 +1,9 @@
-ghost use Rattle.std.specs.Prelude.{◌≡◌, ◌≤◌, true, [], length, take};
+ghost use Rattle.std.specs.Prelude.{◌≡◌, true, []};
 ghost use Rattle.calendars.specs.Entered.{among, apart, entry_answer, entry_after, less, EnteringClosesOne};
 ghost use Rattle.std.proofs.Common.{rules};
 
 use crate::Calendar;
+use arrayvec::ArrayVec;
 use days::LAST_DAY;
 use terms::{Cause, InputCause, StateCause};
 
@@ -13,62 +14,51 @@ pub const MOST_CLOSED_DAYS: usize = 64;
 #[derive(Drop)]
 pub struct ClosedDays<C> {
     below: C,
-    entered: [u32; 64],
-    count: usize,
-    ghost long: { length entered ≡ 64 },
-    ghost fits: { count ≤ 64 },
-    ghost once: { apart (take count entered) ≡ true },
+    entered: ArrayVec<u32, MOST_CLOSED_DAYS>,
+    ghost once: { apart entered.items ≡ true },
 }
 
 impl<C> ClosedDays<C> {
     /// The calendar below, with no day entered yet.
     pub fn over(below: C) -> ClosedDays<C>
         ensures below { result.below ≡ below }
-        ensures entered { take result.count result.entered ≡ [] }
+        ensures entered { result.entered.items ≡ [] }
     {
         ClosedDays {
             below,
-            entered: [0; 64],
-            count: 0,
+            entered: ArrayVec::new(),
         }
     }
 
     /// Enters a day, and answers how many different days are entered then. A number above 36,524 is no day; a 65th
     /// different day finds no room; a day that is entered already changes nothing.
     pub fn enter(&mut self, day: u32) -> Result<usize, Cause>
-        ensures answer { result ≡ entry_answer (take self.old.count self.old.entered) day }
-        ensures after { take self.new.count self.new.entered ≡ entry_after (take self.old.count self.old.entered) day }
+        ensures answer { result ≡ entry_answer self.old.entered.items day }
+        ensures after { self.new.entered.items ≡ entry_after self.old.entered.items day }
         ensures below { self.new.below ≡ self.old.below }
     {
         if day > LAST_DAY {
-            return Err(Cause::Input(InputCause::NoDate));
+            return Err(InputCause::NoDate.into());
         }
-        if self.holds(day) {
-            return Ok(self.count);
+        if !self.holds(day) {
+            if self.entered.is_full() {
+                return Err(StateCause::TableFull.into());
+            }
+            self.entered.push(day);
         }
-        if self.count == MOST_CLOSED_DAYS {
-            return Err(Cause::State(StateCause::TableFull));
-        }
-        self.entered[self.count] = day;
-        self.count += 1;
-        Ok(self.count)
+        Ok(self.entered.len())
     }
 
     /// Whether the day is entered.
     fn holds(&self, day: u32) -> bool
-        ensures { result ≡ among (take self.now.count self.now.entered) day }
+        ensures { result ≡ among self.now.entered.items day }
     {
-        for i in 0..self.count {
-            if self.entered[i] == day {
-                return true;
-            }
-        }
-        false
+        self.entered.contains(&day)
     }
 }
 
 impl<C: Calendar> Calendar for ClosedDays<C> {
-    ghost opens = { λ c. less (C.Calendar.opens c.below) (take c.count c.entered) };
+    ghost opens = { λ c. less (C.opens c.below) c.entered.items };
 
     ghost within = { Prim.search rules };
 
@@ -77,6 +67,8 @@ impl<C: Calendar> Calendar for ClosedDays<C> {
     }
 
     fn next_open(&self, from: u32) -> Option<u32> {
+        // Each turn asks the calendar below, which may know a quicker way than day by day.
+        // `successors(..).find(..)` was tried: `find` asks that the days come to an end, and the search did not prove that.
         let mut at = from;
         while let Some(day) = self.below.next_open(at) {
             if !self.holds(day) {

@@ -21,6 +21,7 @@ pub struct UsableDays {
 
 /// The earliest processing day of a file that is opened on a day: the next open day after it, if any; for Faster
 /// Payments the opening day itself. A number above 36,524 is no opening day.
+// Service, opening day and calendar stay three arguments: a struct of them would be made for one call and taken apart in it.
 pub fn earliest_processing_day<C: Calendar>(
     service: Service,
     opening: u32,
@@ -52,13 +53,10 @@ pub fn last_usable_day(service: Service, processing: u32) -> u32
 pub fn count_open_days<C: Calendar>(calendar: &C, first: u32, last: u32) -> u32
     ensures { result ≡ open_count (C.opens calendar.now) first last }
 {
-    let mut count = 0;
-    for day in first..last.min(LAST_DAY) + 1 {
-        if calendar.is_open(day) {
-            count += 1;
-        }
-    }
-    count
+    // At most 36,525 days are counted, so the count fits.
+    (first..last.min(LAST_DAY) + 1)
+        .filter(|day| calendar.is_open(*day))
+        .count() as u32
 }
 
 /// The days that a file opened on a day may use at the earliest, if there are any. A number above 36,524 is no opening day.

@@ -37,11 +37,6 @@ impl Calendar for YearTable {
     fn next_open(&self, from: u32) -> Option<u32> {
         let first = self.year.first_day();
         let start = from.max(first);
-        for day in start..first + self.year.length() {
-            if self.flags[(day - first) as usize] {
-                return Some(day);
-            }
-        }
-        None
+        (start..first + self.year.length()).find(|day| self.is_open(*day))
     }
 }

@@ -1,12 +1,12 @@
 -- What a call answers and leaves, in each case that its tests tell apart.
-use Rattle.std.proofs.Common.{◌≡◌, ℕ, suc, ◌<◌, ◌≤◌, true, false, ltb, leb, List, [], ◌∷◌, ◌++◌, length, Some, Ok, Err, Result, sym, refl, ap, append-nil, le_refl, arith}
+use Rattle.std.proofs.Common.{◌≡◌, ℕ, suc, ◌<◌, ◌≤◌, true, ltb, leb, List, length, Some, Ok, Result, sym, refl, ap, append-nil, arith}
 use Rattle.std.specs.List.{slice_get, insert, remove}
 use Rattle.std.specs.Option.{ok_or}
 use Rattle.std.proofs.lemmas.List.{take_all, drop_all}
-use Rattle.std.proofs.lemmas.Bool.{le-leb, lt-ltb, le-ltb}
+use Rattle.std.proofs.lemmas.Bool.{le-leb, lt-ltb}
 use Rattle.cells.specs.declared.fault.ListFault.{ListFault}
-use Rattle.cells.specs.declared.fault.ListFault.TheVariants.{Full, NoSuchRow}
-use Rattle.cells.specs.Entries.{row_answer, insert_answer, insert_after, push_after}
+use Rattle.cells.specs.declared.fault.ListFault.TheVariants.{NoSuchRow}
+use Rattle.cells.specs.Entries.{row_answer, insert_answer, insert_after}
 
 -- a row that is there
 pub row_there : {X : Type 0} (xs : List X) (i : ℕ) (x : X) → slice_get xs i ≡ Some x → Ok x ≡ row_answer xs i
@@ -21,24 +21,8 @@ pub record Inserts {X : Type 0} (most : ℕ) (xs : List X) (i : ℕ) (x : X) (r 
   pub answer : r ≡ insert_answer most xs i
   pub after : ys ≡ insert_after most xs i x
 
-pub insert_full : {X : Type 0} (most : ℕ) (xs : List X) (i : ℕ) (x : X) → i ≤ length xs → most ≤ length xs → Inserts most xs i x (Err Full) xs
-insert_full most xs i x h f =
-    let t : leb i (length xs) ≡ true = le-leb i (length xs) h in
-    let u : ltb (length xs) most ≡ false = le-ltb (length xs) most f in
-    record { answer = rw (t, u) refl; after = rw (t, u) refl }
-
 pub insert_done : {X : Type 0} (most : ℕ) (xs : List X) (i : ℕ) (x : X) → i ≤ length xs → length xs < most → Inserts most xs i x (Ok tt) (insert xs i x)
 insert_done most xs i x h f =
     let t : leb i (length xs) ≡ true = le-leb i (length xs) h in
     let u : ltb (length xs) most ≡ true = lt-ltb (length xs) most f in
     record { answer = rw (t, u) refl; after = rw (t, u) refl }
-
--- an entry that is put last is inserted at the row after the last
-pub inserted_last : {X : Type 0} (xs : List X) (x : X) → insert xs (length xs) x ≡ xs ++ x ∷ []
-inserted_last xs x = rw (take_all (length xs) xs (le_refl _), drop_all (length xs) xs (le_refl _)) refl
-
-pub push_full : {X : Type 0} (most : ℕ) (xs : List X) (x : X) → ltb (length xs) most ≡ false → xs ≡ push_after most xs x
-push_full most xs x t = rw t refl
-
-pub push_done : {X : Type 0} (most : ℕ) (xs : List X) (x : X) → ltb (length xs) most ≡ true → xs ++ x ∷ [] ≡ push_after most xs x
-push_done most xs x t = rw t refl

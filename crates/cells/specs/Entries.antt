@@ -1,5 +1,5 @@
 -- The entries of a list that lies in lent cells, what each call answers, and what it leaves.
-use Rattle.std.specs.Prelude.{ℕ, min, cond, ◌&&◌, List, [], ◌∷◌, ◌++◌, length, take, Ok, Err, Result, nat_le, nat_lt}
+use Rattle.std.specs.Prelude.{◌≡◌, ℕ, min, cond, ◌&&◌, List, [], ◌∷◌, ◌++◌, length, take, Ok, Err, Result, nat_le, nat_lt}
 use Rattle.std.specs.List.{slice_get, insert}
 use Rattle.std.specs.Option.{ok_or}
 use Rattle.cells.specs.declared.CellList.{CellList}
@@ -13,6 +13,10 @@ entries l = take l.len (take 4000 l.cells.now)
 -- how many entries there is room for
 abbrev pub room : {X : Type 0} → CellList X → ℕ
 room l = min (length l.cells.now) 4000
+
+-- a list that still lies in the same lent cells, with the same room
+abbrev pub SameCells : {X : Type 0} → CellList X → CellList X → Type 0
+SameCells old new = (room new ≡ room old) × (new.cells.ghost_name ≡ old.cells.ghost_name)
 
 -- the entry at a row, for the calls that answer it
 abbrev pub row_answer : {X : Type 0} → List X → ℕ → Result X ListFault

@@ -3,11 +3,9 @@
 
 mod edits;
 mod fault;
-mod front;
 mod laws;
 mod reads;
 mod shifts;
-mod steps;
 
 pub use fault::ListFault;
 pub use laws::list_laws_hold;
@@ -20,6 +18,7 @@ pub const MOST_ENTRIES: usize = 4000;
 /// The entries stand in the first cells, in their order. What the cells behind them hold is free: a call may leave anything there, and none reads it.
 #[derive(Drop)]
 pub struct CellList<'a, T> {
+    // A count beside the cells: whoever calls lends the memory, so no type with a room of its own can stand here.
     cells: &'a mut [T],
     len: usize,
 }

@@ -2,7 +2,6 @@ ghost use Rattle.std.specs.Prelude.{◌≡◌, ◌≤◌, min, [], length, take,
 ghost use Rattle.std.specs.List.{slice_get};
 ghost use Rattle.cells.specs.Entries.{entries, room};
 
-use crate::front::{entries_in, entry_in};
 use crate::{CellList, MOST_ENTRIES};
 
 impl<'a, T: Copy> CellList<'a, T> {
@@ -16,25 +15,20 @@ impl<'a, T: Copy> CellList<'a, T> {
         CellList { cells, len: 0 }
     }
 
-    /// How many entries there are.
+    /// How many entries there are. The count is cut to the room here, so that nothing else has to rely on it.
     pub fn len(&self) -> usize
         ensures value { result ≡ length (entries self.now) }
         ensures bound { result ≤ room self.now }
         ensures rows { entries self.now ≡ take result self.now.cells.now }
     {
-        let cells: &[T] = &*self.cells;
-        entries_in(cells, self.capacity(), self.len)
+        self.len.min(self.capacity())
     }
 
     /// How many entries there is room for, in all.
     pub fn capacity(&self) -> usize
         ensures { result ≡ room self.now }
     {
-        if self.cells.len() < MOST_ENTRIES {
-            self.cells.len()
-        } else {
-            MOST_ENTRIES
-        }
+        self.cells.len().min(MOST_ENTRIES)
     }
 
     /// Whether there is no entry.
@@ -48,7 +42,6 @@ impl<'a, T: Copy> CellList<'a, T> {
     pub fn get(&self, row: usize) -> Option<T>
         ensures { result ≡ slice_get (entries self.now) row }
     {
-        let cells: &[T] = &*self.cells;
-        entry_in(cells, self.len(), row)
+        self.cells[..self.len()].get(row).copied()
     }
 }

@@ -1,15 +1,15 @@
 -- The year and the place in the year come back from a day's number, and so do texts from days.
-use Rattle.std.proofs.Common.{◌≡◌, ℕ, suc, ◌+◌, ◌-◌, ◌*◌, ◌/◌, ◌%◌, ◌^◌, ◌<◌, ◌≤◌, Bool, true, false, cond, ◌&&◌, eqb, leb, List, [], ◌∷◌, ◌++◌, length, get_or, take, drop, IfOk, Ok, Err, Result, sym, refl, ap, ◌∙◌, subst, append-nil, arith, length-drop}
+use Rattle.std.proofs.Common.{◌≡◌, ℕ, suc, ◌+◌, ◌-◌, ◌*◌, ◌/◌, ◌%◌, ◌^◌, ◌<◌, ◌≤◌, Bool, true, false, cond, ◌&&◌, eqb, leb, List, [], ◌∷◌, ◌++◌, length, get_or, take, drop, IfOk, Ok, Err, Result, sym, refl, ap, ◌∙◌, subst, arith, length-drop}
 use Rattle.std.specs.Str.{bytes_eq}
 use Rattle.std.proofs.lemmas.Nat.{div-mul-add, mod-mul-add}
 use Rattle.std.proofs.lemmas.Slice.Eq.{bytes_eq-Decides}
-use Rattle.std.proofs.lemmas.List.{take_all, take-append-drop}
+use Rattle.std.proofs.lemmas.List.{take-append-drop}
 use Rattle.std.proofs.lemmas.Bool.{and_from, and_parts, eq-eqb, eqb-true, le-leb, leb-true}
 use Rattle.std.proofs.lemmas.Bool.Decides.{nat_tests}
 use Rattle.terms.specs.declared.cause.InputCause.{InputCause}
 use Rattle.digits.specs.Decimal.{all_digits, number_in, digits_reading, decimal}
-use Rattle.digits.proofs.Numbers.{length-decimal, all_decimal, number_decimal, decimal_number, number_below}
-use Rattle.days.specs.Dates.{first_day_of, year_length, day_number, in_year, dated, date_form, date_reading, year_of, place_of, year_day, year_finding, date_text, date_writing, DateLaws}
+use Rattle.digits.proofs.Numbers.{length-decimal, all_decimal, number_decimal, decimal_number, number_below, passing}
+use Rattle.days.specs.Dates.{first_day_of, year_length, day_number, in_year, dated, date_form, date_reading, year_of, place_of, year_day, date_text, date_writing, DateLaws}
 
 -- Years and places.
 
@@ -21,10 +21,6 @@ last_day y k m l h = grind (arith, nat_tests)
 
 day_back : (n y k d : ℕ) → n ≡ 1000 * y + k → 1 ≤ k → k ≤ year_length y → d ≡ 365 * y + (y + 3) / 4 + k - 1 → year_of d ≡ y → year_day d ≡ n
 day_back n y k d e l h i j = rw j (omega arith)
-
-passing : {X : Type 0} (b : Bool) (m n : X) (e : InputCause) → cond b (Ok m) (Err e) ≡ Ok n → (b ≡ true) × (m ≡ n)
-passing true m n e h = (refl, cc)
-passing false m n e h = let z : ◌≡◌ {A = ℕ} 0 1 = cc in absurd (omega arith)
 
 -- five digits that name a day are those of the day
 pub dated_back : (n d : ℕ) → n < 10 ^ 5 → dated n ≡ Ok d → (d ≤ 36524) × (year_day d ≡ n)
@@ -102,39 +98,19 @@ date_laws =
 
 -- The steps of the code.
 
-spaced : (bs : List ℕ) → 0 < length bs → get_or bs 0 0 ≡ 32 → bytes_eq (take 1 bs) (32 ∷ []) ≡ true
-spaced [] l e = absurd (omega arith)
-spaced (b ∷ bs) l e = rw e refl
-
 -- five digits after a space are read as the day that they name
-pub digits_name : (bs : List ℕ) (n : ℕ) → length bs ≡ 6 → get_or bs 0 0 ≡ 32 → Ok n ≡ digits_reading (take 5 (drop 1 bs)) → dated n ≡ date_reading bs
-digits_name bs n six e h =
-    let ys = drop 1 bs in
-    let five : length ys ≡ 5 = length-drop 1 bs ∙ omega arith in
-    let same : take 5 ys ≡ ys = take_all 5 ys (omega arith) in
-    let v = passing (leb (length ys) 19 && all_digits ys) (number_in ys) n _ (sym (h ∙ ap digits_reading same)) in
-    let all = and_parts (leb (length ys) 19) (all_digits ys) v.0 in
-    let t : date_form bs ≡ true = and_from _ _ (eq-eqb (length bs) 6 six) (and_from _ _ (spaced bs (omega arith) e) all.1) in
-    rw t (ap dated (sym v.1))
+pub digits_name : (bs : List ℕ) (n : ℕ) → length bs ≡ 6 → get_or bs 0 0 ≡ 32 → Ok n ≡ digits_reading (drop 1 bs) → dated n ≡ date_reading bs
+digits_name [] n six e h = absurd (omega arith)
+digits_name (b ∷ bs) n six e h =
+    let v = passing (leb (length bs) 19 && all_digits bs) (number_in bs) n _ (sym h) in
+    let all = and_parts (leb (length bs) 19) (all_digits bs) v.0 in
+    rw (e, eq-eqb (suc (length bs)) 6 six, all.1) (ap dated (sym v.1))
 
 -- what is read has the text that is written
 pub read_text : (bs : List ℕ) (r : Result ℕ InputCause) → r ≡ date_reading bs → IfOk r (λ d. (d ≤ 36524) × (bs ≡ date_text d))
 read_text bs (Ok d) e = only_text bs d (sym e)
 read_text bs (Err c) e = tt
 
-pub record Written (d : ℕ) (text : List ℕ) : Type 0 where
-  pub value : Ok text ≡ date_writing d
-  pub back : date_reading text ≡ Ok d
-
--- the digits of a day's year and place make its text
-pub digits_written : (d y n : ℕ) (out : List ℕ) → Ok y ≡ year_finding d → n ≡ 1000 * y + (d - first_day_of y + 1) → out ≡ decimal 5 n → Written d (32 ∷ (out ++ []))
-digits_written d y n out f e o =
-    let v = passing (leb d 36524) (year_of d) y _ (sym f) in
-    let low = leb-true d 36524 v.0 in
-    let year : y ≡ year_of d = sym v.1 in
-    let number : n ≡ year_day d = e ∙ ap (λ (z : ℕ). 1000 * z + (d - first_day_of z + 1)) year in
-    let text : 32 ∷ (out ++ []) ≡ date_text d = ap (λ zs. 32 ∷ zs) (append-nil out ∙ o ∙ ap (decimal 5) number) in
-    record {
-      value = rw v.0 (cc);
-      back = ap date_reading text ∙ text_reads d low;
-    }
+-- what is written of a day reads as that day
+pub writing_reads : (d : ℕ) (text : List ℕ) → Ok text ≡ date_writing d → date_reading text ≡ Ok d
+writing_reads d text e = date_laws.written_reads d text (sym e)

@@ -14,9 +14,8 @@ pub fn read_date(text: &[u8]) -> Result<u32, InputCause>
     if text.len() != 6 || text[0] != b' ' {
         return Err(InputCause::NoDate);
     }
-    let Ok(number) = read_digits(&text[1..6]) else {
-        return Err(InputCause::NoDate);
-    };
+    let number = read_digits(&text[1..]).map_err(|_| InputCause::NoDate)?;
+    // Five digits fit into 32 bits.
     day_of_year(number as u32)
 }
 
@@ -27,7 +26,7 @@ fn day_of_year(number: u32) -> Result<u32, InputCause>
 {
     let year = Year::new(number / 1000)?;
     let place = number % 1000;
-    if place < 1 || place > year.length() {
+    if !(1..=year.length()).contains(&place) {
         return Err(InputCause::NoDate);
     }
     Ok(year.first_day() + place - 1)
@@ -41,7 +40,7 @@ pub fn write_date(day: u32) -> Result<[u8; 6], InputCause>
     let year = Year::of_day(day)?;
     let place = day - year.first_day() + 1;
     let mut text = [b' '; 6];
-    put_digits(&mut text[1..6], (1000 * year.number() + place) as u64);
+    put_digits(&mut text[1..], (1000 * year.number() + place) as u64);
     Ok(text)
 }
 

@@ -16,6 +16,7 @@ pub enum Weekday {
 }
 
 /// The weekday of a day.
+// A function: `Weekday::from(number)` would not say that a day has that number.
 pub fn weekday_of(day: u32) -> Weekday
     ensures { result ≡ weekday day }
 {

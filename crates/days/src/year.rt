@@ -13,6 +13,8 @@ pub struct Year {
 }
 
 impl Year {
+    // Two functions: `Year::try_from(number)` would not say whether a year or a day has that number.
+
     /// The year of that number; one above 99 is no year.
     pub fn new(value: u32) -> Result<Year, InputCause>
         ensures { result_map_both (λ y. y.value) (λ e. e) result ≡ year_making value }

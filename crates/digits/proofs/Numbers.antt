@@ -1,7 +1,8 @@
 -- A number in digits is read again, and digits are those of the number that they write.
-use Rattle.std.proofs.Common.{◌≡◌, ℕ, zero, suc, ◌+◌, ◌-◌, ◌*◌, ◌/◌, ◌%◌, ◌^◌, ◌<◌, ◌≤◌, Bool, true, false, cond, ◌&&◌, leb, List, [], ◌∷◌, ◌++◌, length, Ok, Err, sym, refl, ap, ◌∙◌, subst, append_assoc, append-nil, add-zero, mod-lt, div-lt_iff_lt-mul, pow-suc, div-add-mod', zero-add, add-one, arith, length-append}
+use Rattle.std.proofs.Common.{◌≡◌, ℕ, zero, suc, ◌+◌, ◌-◌, ◌*◌, ◌/◌, ◌%◌, ◌^◌, ◌<◌, ◌≤◌, Bool, true, false, cond, ◌&&◌, leb, List, [], ◌∷◌, ◌++◌, length, Ok, Err, sym, refl, ap, ◌∙◌, subst, append_assoc, append-nil, reverse, add-zero, mod-lt, div-lt_iff_lt-mul, pow-suc, div-add-mod', zero-add, add-one, arith, length-append}
 use native.Mathlib.Nat.{pow-le-pow_right}
 use Rattle.std.specs.Char.{is_ascii_digit}
+use Rattle.std.proofs.lemmas.List.{reverse-append}
 use Rattle.std.proofs.lemmas.Nat.{div-mul-add, mod-mul-add}
 use Rattle.std.proofs.lemmas.Bool.{and_from, and_parts, le-leb, leb-true}
 use Rattle.terms.specs.declared.cause.InputCause.{InputCause}
@@ -21,13 +22,10 @@ unfolding decimal
 length-decimal zero n = refl
 length-decimal (suc w) n = length-append (decimal w (n / 10)) _ ∙ omega (arith, length-decimal w (n / 10))
 
-pub decimal_none : (n : ℕ) (xs : List ℕ) → decimal 0 n ++ xs ≡ xs
+-- one digit more is written, of those that stand last first in xs
+pub decimal_more : (w k n : ℕ) (xs : List ℕ) → k ≡ w + 1 → decimal k n ++ reverse xs ≡ decimal w (n / 10) ++ reverse (xs ++ (48 + n % 10) ∷ [])
 unfolding decimal
-decimal_none n xs = refl
-
-pub decimal_more : (w n : ℕ) (xs : List ℕ) → decimal (w + 1) n ++ xs ≡ decimal w (n / 10) ++ ((48 + n % 10) ∷ xs)
-unfolding decimal
-decimal_more w n xs = rw add-one (append_assoc (decimal w (n / 10)) _ xs)
+decimal_more w k n xs e = rw (e, add-one, reverse-append xs ((48 + n % 10) ∷ [])) (append_assoc (decimal w (n / 10)) _ (reverse xs))
 
 all_push : (xs : List ℕ) (b : ℕ) → all_digits xs ≡ true → is_ascii_digit b ≡ true → all_digits (xs ++ b ∷ []) ≡ true
 all_push [] b h t = and_from _ _ t refl
@@ -92,7 +90,8 @@ number_below xs h = subst (λ m. number_in xs < 10 ^ m) (zero-add (length xs)) (
 
 -- The laws.
 
-passing : (b : Bool) (m n : ℕ) (e : InputCause) → cond b (Ok m) (Err e) ≡ Ok n → (b ≡ true) × (m ≡ n)
+-- a test that lets a value through was passed
+pub passing : {X : Type 0} (b : Bool) (m n : X) (e : InputCause) → cond b (Ok m) (Err e) ≡ Ok n → (b ≡ true) × (m ≡ n)
 passing true m n e h = (refl, cc)
 passing false m n e h = let z : ◌≡◌ {A = ℕ} 0 1 = cc in absurd (omega arith)
 

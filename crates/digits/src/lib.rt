@@ -32,10 +32,14 @@ pub fn put_digits(out: &mut [u8], n: u64)
     ensures { out.new ≡ decimal (length out.old) n }
 {
     let mut rest = n;
-    for i in (0..out.len()).rev() {
-        out[i] = b'0' + (rest % 10) as u8;
+    // The last digit comes first, and all are turned round at the end. `iter_mut().rev()` was tried: the check knows nothing
+    // of what the places hold afterwards.
+    for place in out.iter_mut() {
+        // A digit, so it fits into a byte.
+        *place = b'0' + (rest % 10) as u8;
         rest /= 10;
     }
+    out.reverse();
 }
 
 /// What is written of a number that fits is read as that number, and digits that are read are what is written of their number.

@@ -2,40 +2,32 @@
 #![tactic(auto)]
 
 mod question;
+mod refusal;
 mod report;
 
 use calendars::{AllDays, Weekdays};
 use question::{read_opening, read_service};
+use refusal::Refusal;
 use report::Report;
 use std::env;
-use terms::{InputCause, Service};
-
-/// What is asked where no arguments are given.
-const SAMPLE: [&str; 2] = ["C", "16003"];
+use terms::Service;
 
 fn main(rt: HostRuntime) -> anyhow::Result<()> {
     run(&rt)
 }
 
-/// Answers each pair of arguments; an opening date that is missing is no date.
+/// Answers each pair of arguments, or a sample where there is none; an opening date that is missing is no date.
 fn run(rt: &HostRuntime) -> anyhow::Result<()> {
-    let mut asked = false;
-    let mut letter: Option<String> = None;
-    for word in env::args(rt)?.skip(1) {
-        asked = true;
-        match letter {
-            None => letter = Some(word),
-            Some(first) => {
-                answer(rt, first.as_str(), word.as_str())?;
-                letter = None;
-            }
+    let words: Vec<String> = env::args(rt)?.skip(1).collect(rt.alloc())?;
+    if words.is_empty() {
+        return answer(rt, "C", "16003");
+    }
+    for question in words.chunks(2) {
+        match question {
+            [letter, date] => answer(rt, letter.as_str(), date.as_str())?,
+            [letter] => answer(rt, letter.as_str(), "")?,
+            _ => {}
         }
-    }
-    if let Some(first) = letter {
-        answer(rt, first.as_str(), "")?;
-    }
-    if !asked {
-        answer(rt, SAMPLE[0], SAMPLE[1])?;
     }
     Ok(())
 }
@@ -43,28 +35,20 @@ fn run(rt: &HostRuntime) -> anyhow::Result<()> {
 /// Prints the report for one question, or why it is refused.
 fn answer(rt: &HostRuntime, letter: &str, date: &str) -> anyhow::Result<()> {
     println!(rt; "service `{letter}`, opening date `{date}`")?;
-    let service = match read_service(letter.as_bytes()) {
-        Ok(service) => service,
-        Err(cause) => return refuse(rt, "the service letter is C, D or F", cause),
-    };
-    let opening = match read_opening(date.as_bytes()) {
-        Ok(opening) => opening,
-        Err(cause) => return refuse(rt, "the opening date is YYDDD, as 16003", cause),
-    };
-    // Faster Payments run on all days, Bacs on Mondays to Fridays.
-    let report = match service {
-        Service::FasterPayments => Report::new(service, opening, &AllDays),
-        _ => Report::new(service, opening, &Weekdays),
-    };
-    match report {
+    match report_on(letter, date) {
         Ok(report) => rt.println(report)?,
-        Err(cause) => return refuse(rt, "the opening day", cause),
+        Err(refusal) => println!(rt; "  {refusal}")?,
     }
     Ok(())
 }
 
-fn refuse(rt: &HostRuntime, wanted: &str, cause: InputCause) -> anyhow::Result<()> {
-    let number = cause.number();
-    println!(rt; "  refused with {number}: {cause} ({wanted})")?;
-    Ok(())
+/// The report for one question. Faster Payments run on all days, Bacs on Mondays to Fridays.
+fn report_on(letter: &str, date: &str) -> Result<Report, Refusal> {
+    let service = read_service(letter.as_bytes()).map_err(Refusal::Letter)?;
+    let opening = read_opening(date.as_bytes()).map_err(Refusal::Date)?;
+    match service {
+        Service::FasterPayments => Report::new(service, opening, &AllDays),
+        _ => Report::new(service, opening, &Weekdays),
+    }
+    .map_err(Refusal::Opening)
 }

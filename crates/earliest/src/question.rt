@@ -9,7 +9,7 @@ pub fn read_service(word: &[u8]) -> Result<Service, InputCause>
     ensures { result ≡ service_word word.now }
 {
     match word {
-        [letter] => Service::from_letter(*letter),
+        [letter] => Service::try_from(*letter),
         _ => Err(InputCause::NotListed),
     }
 }
@@ -18,8 +18,8 @@ pub fn read_service(word: &[u8]) -> Result<Service, InputCause>
 pub fn read_opening(word: &[u8]) -> Result<u32, InputCause>
     ensures { result ≡ opening_word word.now }
 {
-    if word.len() != 5 {
-        return read_date(word);
+    match word {
+        [a, b, c, d, e] => read_date(&[b' ', *a, *b, *c, *d, *e]),
+        _ => read_date(word),
     }
-    read_date(&[b' ', word[0], word[1], word[2], word[3], word[4]])
 }

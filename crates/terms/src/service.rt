@@ -16,19 +16,8 @@ pub enum Service {
 }
 
 impl Service {
-    /// The service that a letter names; any other byte is none of the listed ones.
-    pub fn from_letter(letter: u8) -> Result<Service, InputCause>
-        ensures { result ≡ service_of letter }
-    {
-        match letter {
-            b'C' => Ok(Service::Credits),
-            b'D' => Ok(Service::Debits),
-            b'F' => Ok(Service::FasterPayments),
-            _ => Err(InputCause::NotListed),
-        }
-    }
-
     /// The letter of a service, which names it again.
+    // A method: `u8::from(service)` would not say that the byte is the letter.
     pub fn letter(self) -> u8
         ensures value { result ≡ letter_of self }
         ensures back { service_of result ≡ Ok self }
@@ -37,6 +26,22 @@ impl Service {
             Service::Credits => b'C',
             Service::Debits => b'D',
             Service::FasterPayments => b'F',
+        }
+    }
+}
+
+impl TryFrom<u8> for Service {
+    type Error = InputCause;
+
+    ghost try_from_gives = { λ letter r. r ≡ service_of letter };
+
+    /// The service that a letter names; any other byte is none of the listed ones.
+    fn try_from(letter: u8) -> Result<Service, InputCause> {
+        match letter {
+            b'C' => Ok(Service::Credits),
+            b'D' => Ok(Service::Debits),
+            b'F' => Ok(Service::FasterPayments),
+            _ => Err(InputCause::NotListed),
         }
     }
 }

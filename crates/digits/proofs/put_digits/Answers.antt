@@ -1,23 +1,23 @@
-use Rattle.std.proofs.Common.{◌≡◌, ◌+◌, ◌-◌, ◌/◌, ◌%◌, ◌<◌, ◌∷◌, ◌++◌, length, drop, sym, ap, ◌∙◌, append-nil, le_refl, arith}
-use Rattle.std.proofs.lemmas.List.{drop-set, drop_all}
+use Rattle.std.proofs.Common.{◌≡◌, ◌+◌, ◌-◌, ◌/◌, ◌%◌, ◌++◌, length, reverse, take, sym, ap, ◌∙◌, append-nil, arith}
+use Rattle.std.proofs.lemmas.List.{take_more_set, take_all}
 use Rattle.digits.specs.Decimal.{decimal}
-use Rattle.digits.proofs.Numbers.{decimal_none, decimal_more}
+use Rattle.digits.proofs.Numbers.{decimal_more}
 use Rattle.digits.proofs.put_digits.Goals as goal
 
-pub loop-i-init : goal.loop-i-init
-loop-i-init c = rw (drop_all (length c.args.out.now) c.args.out.now (le_refl _), append-nil)
+pub loop-place-init : goal.loop-place-init
+loop-place-init c = let all : length c.args.out.now - 0 ≡ length c.args.out.now = omega arith in rw all (sym (append-nil _))
 
-pub loop-i-preserved : goal.loop-i-preserved
-loop-i-preserved c =
-    let xs = c.loop-i.out in
-    let i = c.loop-i.i - 1 in
-    let n = c.loop-i.rest in
-    let up : i + 1 ≡ c.loop-i.i = omega arith in
-    let in' : i < length xs = omega arith in
-    let e : decimal (i + 1) n ++ drop (i + 1) xs ≡ decimal i (n / 10) ++ ((48 + n % 10) ∷ drop (i + 1) xs) = decimal_more i n _ in
-    c.loop-i.invariant ∙ ap (λ k. decimal k n ++ drop k xs) (sym up) ∙ e ∙ ap (λ l. decimal i (n / 10) ++ l) (sym (drop-set xs i _ in'))
+pub loop-place-preserved : goal.loop-place-preserved
+loop-place-preserved c =
+    let i = c.loop-place.place-index in
+    let left = length c.args.out.now - (i + 1) in
+    c.loop-place.invariant
+    ∙ decimal_more left _ c.loop-place.rest (take i c.loop-place.out) (omega arith)
+    ∙ ap (λ xs. decimal left (c.loop-place.rest / 10) ++ reverse xs) (sym (take_more_set c.loop-place.out i (48 + c.loop-place.rest % 10) (omega arith)))
 
 pub returns : goal.returns
+unfolding decimal
 returns c =
-    let z : c.loop-i.i ≡ 0 = omega arith in
-    sym (c.loop-i.invariant ∙ ap (λ k. decimal k c.loop-i.rest ++ drop k c.loop-i.out) z ∙ decimal_none c.loop-i.rest c.loop-i.out)
+    let none : length c.args.out.now - c.loop-place.place-index ≡ 0 = omega arith in
+    let whole = take_all c.loop-place.place-index c.loop-place.out (omega arith) in
+    c.reverse.ensures.after ∙ sym (rw (none, whole) at c.loop-place.invariant)

@@ -1,13 +1,7 @@
-use Rattle.std.proofs.Common.{◌≡◌, ℕ, ◌∙◌, subst, arith, length-set}
-use Rattle.cells.proofs.Moves.{Opened, opened_all}
+use Rattle.cells.proofs.Moves.{opened_all}
 use Rattle.cells.proofs.shifts.insert_into.Goals as goal
 
-pub returns : goal.returns
-returns g c =
-    let was = c.args.cells.now in
-    let at : c.loop-free.free ≡ c.args.row = omega arith in
-    let o : Opened was c.loop-free.cells c.args.row c.args.len = subst (λ (m : ℕ). Opened was c.loop-free.cells m c.args.len) at c.loop-free.invariant.2 in
-    record {
-      size = length-set c.loop-free.cells c.args.row c.args.entry ∙ o.size;
-      after = opened_all was c.loop-free.cells c.args.row c.args.len c.args.entry (omega arith) (omega arith) o;
-    }
+pub returns-clause-after : goal.returns-clause-after
+returns-clause-after g c =
+    let m = c.copy_within.ensures in
+    opened_all c.args.cells.now c.copy_within.new.self c.args.row c.args.len c.args.entry c.requires.within c.requires.room m.len m.by_index.0 m.by_index.1

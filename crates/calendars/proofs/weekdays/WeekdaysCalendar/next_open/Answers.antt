@@ -10,22 +10,14 @@ within k t = grind (arith, nat_tests)
 named : (d : ℕ) (o : Option ℕ) → Least week_days d o → o ≡ next_member week_days d
 named d o l = named_from week_days within d o l
 
-pub returns-then-from-gt-LAST_DAY : goal.returns-then-from-gt-LAST_DAY
-returns-then-from-gt-LAST_DAY c =
-    let l : Least week_days c.args.from None = λ k h t. grind (arith, nat_tests) in
-    record { named = named c.args.from None l; least = l }
+pub returns-then-from-gt-LAST_DAY-clause-named : goal.returns-then-from-gt-LAST_DAY-clause-named
+returns-then-from-gt-LAST_DAY-clause-named c = named c.args.from None (λ k h t. grind (arith, nat_tests))
 
-pub returns-in-0 : goal.returns-in-0
-returns-in-0 c =
-    let l : Least week_days c.args.from (Some (c.args.from + 2)) = (omega arith, grind (arith, nat_tests), λ k h t. grind (arith, nat_tests)) in
-    record { named = named c.args.from (Some (c.args.from + 2)) l; least = l }
+pub returns-in-0-clause-named : goal.returns-in-0-clause-named
+returns-in-0-clause-named c = named c.args.from (Some (c.args.from + 2)) (omega arith, grind (arith, nat_tests), λ k h t. grind (arith, nat_tests))
 
-pub returns-in-1 : goal.returns-in-1
-returns-in-1 c =
-    let l : Least week_days c.args.from (Some (c.args.from + 1)) = (omega arith, grind (arith, nat_tests), λ k h t. grind (arith, nat_tests)) in
-    record { named = named c.args.from (Some (c.args.from + 1)) l; least = l }
+pub returns-in-1-clause-named : goal.returns-in-1-clause-named
+returns-in-1-clause-named c = named c.args.from (Some (c.args.from + 1)) (omega arith, grind (arith, nat_tests), λ k h t. grind (arith, nat_tests))
 
-pub returns-in_default : goal.returns-in_default
-returns-in_default c =
-    let l : Least week_days c.args.from (Some c.args.from) = (omega arith, grind (arith, nat_tests), λ k h t. h) in
-    record { named = named c.args.from (Some c.args.from) l; least = l }
+pub returns-in_default-clause-named : goal.returns-in_default-clause-named
+returns-in_default-clause-named c = named c.args.from (Some c.args.from) (omega arith, grind (arith, nat_tests), λ k h t. h)
