@@ -1,3 +1,2 @@
 pub mod Contents
-pub mod Passing
 pub mod Signs

@@ -1,19 +1,28 @@
--- The capitals and digits of a text, compared with the first of them.
-use Rattle.std.proofs.Common.{◌≡◌, ℕ, Bool, true, false, cond, not, ◌&&◌, ◌||◌, eqb, List, [], ◌∷◌, filter, refl, ap, ◌∙◌}
-use Rattle.fields.specs.Characters.{each, is_sign_byte}
+-- The capitals and digits of a text, compared with the first of them, and those of a serial.
+use Rattle.std.proofs.Common.{◌≡◌, ℕ, true, eqb, List, [], ◌∷◌, filter, Some, None, refl, inl, inr, add_comm, add-one, drop}
+use Rattle.std.specs.List.{find, prefix_len}
+use Rattle.std.proofs.lemmas.Bool.{cases_Bool, eq-eqb}
+use Rattle.fields.specs.Characters.{at_right, each, is_sign_byte, is_space}
 use Rattle.fields.specs.Words.{same_signs}
 
--- a test on what is kept is a test on all that is passed over or passes
-kept_step : (q : ℕ → Bool) (s : Bool) (b : ℕ) (ks : List ℕ) → (not s || q b) && each q ks ≡ each q (cond s (b ∷ ks) ks)
-kept_step q true b ks = refl
-kept_step q false b ks = refl
+pub same_none : (bs : List ℕ) → find is_sign_byte bs ≡ None → same_signs bs ≡ true
+same_none [] h = refl
+same_none (b ∷ bs) h =
+    elim (cases_Bool (is_sign_byte b)) [ inl e ↦ let k = rw e at h in cc | inr e ↦ rw e (same_none bs (rw e at h)) ]
 
-pub no_other_sign : (f : ℕ) (bs : List ℕ) → each (λ b. not (is_sign_byte b) || eqb b f) bs ≡ each (λ b. eqb b f) (filter is_sign_byte bs)
-no_other_sign f [] = refl
-no_other_sign f (b ∷ bs) = ap (λ x. (not (is_sign_byte b) || eqb b f) && x) (no_other_sign f bs) ∙ kept_step (λ c. eqb c f) (is_sign_byte b) b (filter is_sign_byte bs)
+pub same_first : (f : ℕ) (bs : List ℕ) → find is_sign_byte bs ≡ Some f → same_signs bs ≡ each (λ b. eqb b f) (filter is_sign_byte bs)
+same_first f [] h = cc
+same_first f (b ∷ bs) h =
+    elim (cases_Bool (is_sign_byte b)) [
+      | inl e ↦ let here : b ≡ f = let k : Some b ≡ Some f = rw e at h in cc in rw (e, here, eq-eqb f f refl) refl
+      | inr e ↦ rw e (same_first f bs (rw e at h))
+    ]
 
-pub same_passed : (b : ℕ) (bs : List ℕ) → is_sign_byte b ≡ false → same_signs (b ∷ bs) ≡ same_signs bs
-same_passed b bs h = rw h refl
-
-pub same_first : (b : ℕ) (bs : List ℕ) → is_sign_byte b ≡ true → same_signs (b ∷ bs) ≡ each (λ c. eqb c b) (filter is_sign_byte bs)
-same_first b bs h = rw h refl
+-- what is left of a serial after its spaces
+pub right_signs : (bs : List ℕ) → at_right bs ≡ each is_sign_byte (drop (prefix_len is_space bs) bs)
+right_signs [] = refl
+right_signs (b ∷ bs) =
+    elim (cases_Bool (is_space b)) [
+      | inl e ↦ rw (e, add_comm, add-one) (right_signs bs)
+      | inr e ↦ rw e refl
+    ]

@@ -1,14 +1,14 @@
 -- The characters of the services, and tests on runs of bytes.
 use Rattle.std.specs.Prelude.{ℕ, Bool, true, false, cond, not, ◌&&◌, ◌||◌, List, [], ◌∷◌, codes, ◌==◌, nat_le}
 use Rattle.std.specs.Char.{is_ascii_digit}
+use Rattle.std.specs.List.{list_all}
 use Rattle.std.specs.Str.{bytes_eq}
 use Rattle.terms.specs.declared.service.Service.{Service}
 use Rattle.terms.specs.declared.service.Service.TheVariants.{Credits, Debits, FasterPayments}
 
 -- every byte passes the test
 abbrev pub each : (ℕ → Bool) → List ℕ → Bool
-each test [] = true
-each test (b ∷ bs) = test b && each test bs
+each test bs = list_all test bs
 
 -- the byte is one of these
 abbrev pub among : List ℕ → ℕ → Bool

@@ -1,7 +1,8 @@
 ghost use Rattle.std.specs.Prelude.{◌≡◌};
-ghost use Rattle.fields.specs.Words.{highest};
+ghost use Rattle.fields.specs.Words.{good_amount, highest};
 ghost use Rattle.fields.specs.Judging.{amount_reading, amount_verdict};
 
+use crate::judging::judged;
 use digits::read_digits;
 use terms::{InputCause, Service};
 
@@ -15,17 +16,19 @@ fn highest_amount(service: Service) -> u64
     }
 }
 
+/// Whether an amount in pence lies within the service's limits.
+fn is_good_amount(service: Service, pence: u64) -> bool
+    ensures { result ≡ good_amount service pence }
+{
+    (1..=highest_amount(service)).contains(&pence)
+}
+
 /// Judges an amount in pence: above eleven digits it is too large for its places, else it lies within the service's limits.
 pub fn judge_amount(service: Service, pence: u64) -> Result<(), InputCause>
     ensures { result ≡ amount_verdict service pence }
 {
-    if pence > 99_999_999_999 {
-        return Err(InputCause::NotANumber);
-    }
-    if pence < 1 || pence > highest_amount(service) {
-        return Err(InputCause::WrongAmount);
-    }
-    Ok(())
+    judged(pence <= 99_999_999_999, InputCause::NotANumber)?;
+    judged(is_good_amount(service, pence), InputCause::WrongAmount)
 }
 
 /// The amount that digits of pence say, within the service's limits.
@@ -33,8 +36,6 @@ pub fn read_amount(service: Service, field: &[u8]) -> Result<u64, InputCause>
     ensures { result ≡ amount_reading service field.now }
 {
     let pence = read_digits(field)?;
-    if pence < 1 || pence > highest_amount(service) {
-        return Err(InputCause::WrongAmount);
-    }
+    judged(is_good_amount(service, pence), InputCause::WrongAmount)?;
     Ok(pence)
 }

@@ -5,80 +5,43 @@ ghost use Rattle.fields.specs.Judging.{number_making, number_reading};
 use digits::read_digits;
 use terms::InputCause;
 
-/// A sort code: a number below 1,000,000.
+/// A number at a bank, below a limit.
 #[derive(Clone, Copy, PartialEq, Eq, Debug)]
-pub struct SortCode {
+pub struct BankNumber<const LIMIT: u32> {
     value: u32,
-    ghost bound: { value < 1000000 },
+    ghost bound: { value < LIMIT },
 }
 
-impl SortCode {
-    /// The sort code of a number; one from 1,000,000 on is too large.
-    pub fn new(value: u32) -> Result<SortCode, InputCause>
-        ensures { result_map_both (λ s. s.value) (λ e. e) result ≡ number_making 1000000 value }
+/// A sort code: a number of at most six digits.
+pub type SortCode = BankNumber<1_000_000>;
+
+/// An account number: a number of at most eight digits.
+pub type AccountNumber = BankNumber<100_000_000>;
+
+impl<const LIMIT: u32> BankNumber<LIMIT> {
+    /// The sort code or account of a number; one from the limit on is too large.
+    pub fn new(value: u32) -> Result<BankNumber<LIMIT>, InputCause>
+        ensures { result_map_both (λ n. n.value) (λ e. e) result ≡ number_making LIMIT value }
     {
-        if value >= 1000000 {
+        if value >= LIMIT {
             return Err(InputCause::NotANumber);
         }
-        Ok(SortCode { value })
+        Ok(BankNumber { value })
     }
 
-    /// The sort code that digits say.
-    pub fn read(field: &[u8]) -> Result<SortCode, InputCause>
-        ensures { result_map_both (λ s. s.value) (λ e. e) result ≡ number_reading 1000000 field.now }
+    /// The sort code or account that digits say.
+    pub fn read(field: &[u8]) -> Result<BankNumber<LIMIT>, InputCause>
+        ensures { result_map_both (λ n. n.value) (λ e. e) result ≡ number_reading LIMIT field.now }
     {
         let number = read_digits(field)?;
-        if number >= 1000000 {
-            return Err(InputCause::NotANumber);
-        }
-        Ok(SortCode {
-            value: number as u32,
-        })
+        let value = u32::try_from(number).map_err(|_| InputCause::NotANumber)?;
+        Self::new(value)
     }
 
-    /// The number of the sort code.
+    /// The number itself.
     pub fn number(self) -> u32
-        ensures { result ≡ self.value }
+        ensures { result ≡ self.entry.value }
     {
-        self.value // of at most six digits
-    }
-}
-
-/// An account number: a number below 100,000,000.
-#[derive(Clone, Copy, PartialEq, Eq, Debug)]
-pub struct AccountNumber {
-    value: u32,
-    ghost bound: { value < 100000000 },
-}
-
-impl AccountNumber {
-    /// The account of a number; one from 100,000,000 on is too large.
-    pub fn new(value: u32) -> Result<AccountNumber, InputCause>
-        ensures { result_map_both (λ a. a.value) (λ e. e) result ≡ number_making 100000000 value }
-    {
-        if value >= 100000000 {
-            return Err(InputCause::NotANumber);
-        }
-        Ok(AccountNumber { value })
-    }
-
-    /// The account that digits say.
-    pub fn read(field: &[u8]) -> Result<AccountNumber, InputCause>
-        ensures { result_map_both (λ a. a.value) (λ e. e) result ≡ number_reading 100000000 field.now }
-    {
-        let number = read_digits(field)?;
-        if number >= 100000000 {
-            return Err(InputCause::NotANumber);
-        }
-        Ok(AccountNumber {
-            value: number as u32,
-        })
-    }
-
-    /// The number of the account.
-    pub fn number(self) -> u32
-        ensures { result ≡ self.value }
-    {
-        self.value // of at most eight digits
+        self.value
     }
 }

@@ -7,14 +7,14 @@ use terms::Service;
 pub fn is_sign(byte: u8) -> bool
     ensures { result ≡ is_sign_byte byte }
 {
-    byte.is_ascii_digit() || byte >= b'A' && byte <= b'Z'
+    byte.is_ascii_digit() || byte.is_ascii_uppercase()
 }
 
 /// Whether Bacs allows a byte in a text: capitals, digits, `.&/-` and space.
 pub fn is_plain(byte: u8) -> bool
     ensures { result ≡ is_plain byte }
 {
-    is_sign(byte) || matches!(byte, b'.' | b'&' | b'/' | b'-' | b' ')
+    is_sign(byte) || b".&/- ".contains(&byte)
 }
 
 /// Whether a service allows a byte in a text.
@@ -31,25 +31,5 @@ pub fn allows(service: Service, byte: u8) -> bool
 fn is_faster(byte: u8) -> bool
     ensures { result ≡ is_faster_letter byte }
 {
-    byte >= b'a' && byte <= b'z'
-        || matches!(
-            byte,
-            b'?' | b':'
-                | b'('
-                | b')'
-                | b','
-                | b'\''
-                | b'+'
-                | b'#'
-                | b'='
-                | b'!'
-                | b'"'
-                | b'%'
-                | b'*'
-                | b'<'
-                | b'>'
-                | b';'
-                | b'{'
-                | b'@'
-        )
+    byte.is_ascii_lowercase() || b"?:(),'+#=!\"%*<>;{@".contains(&byte)
 }

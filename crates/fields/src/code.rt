@@ -1,11 +1,9 @@
-ghost use Rattle.std.specs.Prelude.{◌≡◌};
+ghost use Rattle.std.specs.Prelude.{◌≡◌, map};
 ghost use Rattle.std.specs.Result.{result_map_both};
-ghost use Rattle.fields.specs.Words.{code, contra_code_text};
+ghost use Rattle.fields.specs.Words.{code, codes_of, contra_code_text};
 ghost use Rattle.fields.specs.Judging.{code_text, verdict};
-ghost use Rattle.terms.specs.declared.service.Service.TheVariants.{Credits, Debits};
 ghost use Rattle.tables.specs.Walks.{reading};
 
-use crate::runs::same;
 use terms::{InputCause, Service};
 
 /// What kind of payment it is.
@@ -47,62 +45,39 @@ impl PaymentCode {
     pub fn read(service: Service, field: &[u8]) -> Result<PaymentCode, InputCause>
         ensures { result_map_both code_text (λ e. e) result ≡ reading (code service) field.now }
     {
-        match service {
-            Service::Debits => read_debit_code(field),
-            _ => read_credit_code(field),
-        }
+        codes_of(service)
+            .iter()
+            .find(|code| field == code.text().as_slice())
+            .copied()
+            .ok_or(InputCause::WrongCode)
     }
 
-    /// Judges whether the service has the code: `99`, `Z4` and `Z5` for credits and Faster Payments, the others for debits.
+    /// Judges whether the service has the code.
     pub fn judge(self, service: Service) -> Result<(), InputCause>
         ensures { result ≡ verdict (code service) (code_text self) }
     {
-        let credit = match self {
-            PaymentCode::GiroCredit | PaymentCode::Interest | PaymentCode::Dividend => true,
-            _ => false,
-        };
-        let wanted = match service {
-            Service::Debits => false,
-            _ => true,
-        };
-        if credit != wanted {
-            return Err(InputCause::WrongCode);
-        }
+        Self::read(service, &self.text())?;
         Ok(())
     }
 }
 
-fn read_credit_code(field: &[u8]) -> Result<PaymentCode, InputCause>
-    ensures { result_map_both code_text (λ e. e) result ≡ reading (code Credits) field.now }
+/// The codes of a service: `99`, `Z4` and `Z5` for credits and Faster Payments, the others for debits.
+fn codes_of(service: Service) -> &'static [PaymentCode]
+    ensures { map code_text result.now ≡ codes_of service }
 {
-    if same(field, b"99") {
-        return Ok(PaymentCode::GiroCredit);
+    match service {
+        Service::Debits => &[
+            PaymentCode::FirstDebit,
+            PaymentCode::RecurringDebit,
+            PaymentCode::RepresentedDebit,
+            PaymentCode::FinalDebit,
+        ],
+        _ => &[
+            PaymentCode::GiroCredit,
+            PaymentCode::Interest,
+            PaymentCode::Dividend,
+        ],
     }
-    if same(field, b"Z4") {
-        return Ok(PaymentCode::Interest);
-    }
-    if same(field, b"Z5") {
-        return Ok(PaymentCode::Dividend);
-    }
-    Err(InputCause::WrongCode)
-}
-
-fn read_debit_code(field: &[u8]) -> Result<PaymentCode, InputCause>
-    ensures { result_map_both code_text (λ e. e) result ≡ reading (code Debits) field.now }
-{
-    if same(field, b"01") {
-        return Ok(PaymentCode::FirstDebit);
-    }
-    if same(field, b"17") {
-        return Ok(PaymentCode::RecurringDebit);
-    }
-    if same(field, b"18") {
-        return Ok(PaymentCode::RepresentedDebit);
-    }
-    if same(field, b"19") {
-        return Ok(PaymentCode::FinalDebit);
-    }
-    Err(InputCause::WrongCode)
 }
 
 /// The code of a contra.

@@ -8,6 +8,7 @@ pub fn fields_read_back()
 {}
 
 /// Some fields with what is wrong with them.
+#[tactic(auto, unfolding(tables::specs::Forms::read_form, crate::specs::Words::is_spare_text))]
 pub fn field_samples_hold()
     ensures { FieldSamples }
 {}

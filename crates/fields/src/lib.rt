@@ -5,15 +5,15 @@ mod amount;
 mod bank;
 mod character;
 mod code;
+mod judging;
 mod laws;
 mod listed;
 mod owner;
-mod runs;
 mod serial;
 mod text;
 
 pub use amount::{judge_amount, read_amount};
-pub use bank::{AccountNumber, SortCode};
+pub use bank::{AccountNumber, BankNumber, SortCode};
 pub use character::{allows, is_plain, is_sign};
 pub use code::{PaymentCode, contra_code};
 pub use laws::{field_samples_hold, fields_read_back};

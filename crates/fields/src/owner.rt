@@ -3,7 +3,6 @@ ghost use Rattle.std.specs.Result.{result_map_both};
 ghost use Rattle.fields.specs.Judging.{mark_text, marks};
 ghost use Rattle.tables.specs.Walks.{reading};
 
-use crate::runs::same;
 use terms::InputCause;
 
 /// Who a file belongs to: a service user by its number, or a mark.
@@ -34,14 +33,12 @@ impl Mark {
 }
 
 /// The mark that six characters say.
+// A named reading like those of codes and amounts, which take a service too, so no TryFrom.
 pub fn read_mark(field: &[u8]) -> Result<Mark, InputCause>
     ensures { result_map_both mark_text (λ e. e) result ≡ reading marks field.now }
 {
-    if same(field, b"HSBC  ") {
-        return Ok(Mark::Hsbc);
-    }
-    if same(field, b"SAGE  ") {
-        return Ok(Mark::Sage);
-    }
-    Err(InputCause::NotListed)
+    [Mark::Hsbc, Mark::Sage]
+        .into_iter()
+        .find(|mark| field == mark.text().as_slice())
+        .ok_or(InputCause::NotListed)
 }

@@ -1,36 +1,27 @@
 ghost use Rattle.std.specs.Prelude.{◌≡◌};
-ghost use Rattle.fields.specs.Characters.{at_left};
+ghost use Rattle.fields.specs.Characters.{at_left, each, is_letter};
 ghost use Rattle.fields.specs.Words.{filled, reference, same_signs, sign_count, strong, text};
 ghost use Rattle.fields.specs.Judging.{verdict};
 
-use crate::is_sign;
-use crate::runs::{Allowed, NoOtherSign, Spaces, all};
+use crate::judging::judged;
+use crate::listed::is_blank;
+use crate::{allows, is_sign};
 use terms::{InputCause, Service};
 
 /// Judges a text: characters of the service, beginning at the left unless it is blank.
 pub fn judge_text(service: Service, field: &[u8]) -> Result<(), InputCause>
     ensures { result ≡ verdict (text service) field.now }
 {
-    if !all(&Allowed(service), field) {
-        return Err(InputCause::WrongCharacter);
-    }
-    if !is_at_left(field) && !all(&Spaces, field) {
-        return Err(InputCause::NotAtLeft);
-    }
-    Ok(())
+    judged(is_allowed(service, field), InputCause::WrongCharacter)?;
+    judged(is_at_left(field) || is_blank(field), InputCause::NotAtLeft)
 }
 
 /// Judges a filled text: a text that is not blank.
 pub fn judge_filled(service: Service, field: &[u8]) -> Result<(), InputCause>
     ensures { result ≡ verdict (filled service) field.now }
 {
-    if !all(&Allowed(service), field) {
-        return Err(InputCause::WrongCharacter);
-    }
-    if !is_at_left(field) {
-        return Err(InputCause::NotAtLeft);
-    }
-    Ok(())
+    judged(is_allowed(service, field), InputCause::WrongCharacter)?;
+    judged(is_at_left(field), InputCause::NotAtLeft)
 }
 
 /// Judges a payment's reference: a text, which for a debit has at least six capitals or digits, not all the same.
@@ -38,19 +29,20 @@ pub fn judge_reference(service: Service, field: &[u8]) -> Result<(), InputCause>
     ensures { result ≡ verdict (reference service) field.now }
 {
     judge_text(service, field)?;
-    if !is_strong(service, field) {
-        return Err(InputCause::WeakReference);
-    }
-    Ok(())
+    judged(is_strong(service, field), InputCause::WeakReference)
+}
+
+/// Whether the service allows every character.
+fn is_allowed(service: Service, field: &[u8]) -> bool
+    ensures { result ≡ each (is_letter service) field.now }
+{
+    field.iter().all(|byte| allows(service, *byte))
 }
 
 fn is_at_left(field: &[u8]) -> bool
     ensures { result ≡ at_left field.now }
 {
-    match field {
-        [] => false,
-        [first, ..] => *first != b' ',
-    }
+    field.first().is_some_and(|first| *first != b' ')
 }
 
 fn is_strong(service: Service, field: &[u8]) -> bool
@@ -66,23 +58,18 @@ fn is_strong(service: Service, field: &[u8]) -> bool
 fn count_signs(field: &[u8]) -> usize
     ensures { result ≡ sign_count field.now }
 {
-    let mut count = 0;
-    for byte in field {
-        if is_sign(*byte) {
-            count += 1;
-        }
-    }
-    count
+    field.iter().filter(|byte| is_sign(**byte)).count()
 }
 
 /// Whether all capitals and digits are the same.
 fn has_same_signs(field: &[u8]) -> bool
     ensures { result ≡ same_signs field.now }
 {
-    for (i, byte) in field.iter().enumerate() {
-        if is_sign(*byte) {
-            return all(&NoOtherSign(*byte), &field[i + 1..]);
-        }
+    match field.iter().find(|byte| is_sign(**byte)) {
+        Some(first) => field
+            .iter()
+            .filter(|byte| is_sign(**byte))
+            .all(|byte| byte == first),
+        None => true,
     }
-    true
 }

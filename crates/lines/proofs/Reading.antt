@@ -1,5 +1,5 @@
 -- What is read at a place is what the laws of its table say of the line.
-use Rattle.std.proofs.Common.{◌≡◌, ℕ, cond, List, length, Some, None, Ok, Err, Option, Result, sym, refl, ap, ◌∙◌, inl, inr, arith}
+use Rattle.std.proofs.Common.{◌≡◌, ℕ, cond, List, length, Some, None, Ok, Err, Option, sym, refl, ap, ◌∙◌, inl, inr}
 use Rattle.std.proofs.lemmas.Bool.{eq-eqb}
 use Rattle.tables.specs.Lines.{at_values, fields_fault, line_fault, line_width, values, wrong_width, TableFieldFault, FirstIn, TableFault}
 use Rattle.tables.specs.Walks.{outcome}
@@ -10,15 +10,6 @@ use Rattle.lines.specs.Faults.{fault_of}
 use Rattle.lines.specs.Places.{FirstFault, LineOf, Place, ReadsPlace, place_reading}
 
 module _ {X : Type 0} where
-  no_result : {x : X} {e : FileFault} → ◌≡◌ {A = Result X FileFault} (Ok x) (Err e) → ⊥
-  no_result h = let z : ◌≡◌ {A = ℕ} 0 1 = cc in omega arith
-
-  said : {x y : X} → ◌≡◌ {A = Result X FileFault} (Ok x) (Ok y) → x ≡ y
-  said h = cc
-
-  told : {d e : FileFault} → ◌≡◌ {A = Result X FileFault} (Err d) (Err e) → d ≡ e
-  told h = cc
-
   module _ (p : Place X) (l : List ℕ) (wide : length l ≡ line_width p.table) where
     abbrev fault : Option TableFault
     fault = fields_fault p.table 1 l
@@ -34,8 +25,8 @@ module _ {X : Type 0} where
     walked = walk_law FileFault X fault_of p.table p.make l
 
     is_of : (x : X) (o : Option TableFault) → fault ≡ o → outcome fault_of o all ≡ Ok x → LineOf p l x
-    is_of x None q h = record { values = values p.table l; is_line = (line_law p.table l).sound (whole ∙ q); says = said h }
-    is_of x (Some f) q h = absurd (no_result (sym h))
+    is_of x None q h = record { values = values p.table l; is_line = (line_law p.table l).sound (whole ∙ q); says = cc }
+    is_of x (Some f) q h = cc
 
     of_is : (x : X) → LineOf p l x → place_reading p l ≡ Ok x
     of_is x s =
@@ -50,8 +41,8 @@ module _ {X : Type 0} where
     ]
 
     is_first : (e : FileFault) (o : Option TableFault) → fault ≡ o → outcome fault_of o all ≡ Err e → FirstFault p l e
-    is_first e None q h = absurd (no_result h)
-    is_first e (Some f) q h = record { fault = f; first = in_field f ((fault_law p.table l f).0 (whole ∙ q)); is = told h }
+    is_first e None q h = cc
+    is_first e (Some f) q h = record { fault = f; first = in_field f ((fault_law p.table l f).0 (whole ∙ q)); is = cc }
 
     first_is : (e : FileFault) → FirstFault p l e → place_reading p l ≡ Err e
     first_is e s =

@@ -1,5 +1,6 @@
 -- A line and the line feed that ends it.
 use Rattle.std.specs.Prelude.{ℕ, ◌+◌, Bool, true, cond, not, ◌&&◌, List, [], ◌∷◌, ◌++◌, length, take, drop, Some, None, Ok, Err, Option, Result, ◌==◌, nat_lt}
+use Rattle.std.specs.List.{position_from}
 use Rattle.terms.specs.declared.cause.StateCause.{StateCause}
 use Rattle.terms.specs.declared.cause.StateCause.TheVariants.{AreaTooSmall}
 use Rattle.lines.specs.declared.fault.FileFault.{FileFault}
@@ -8,8 +9,7 @@ use Rattle.lines.specs.declared.fault.LineFault.TheVariants.{NoLineFeed, WrongLe
 
 -- how many bytes stand before the first line feed, after n others
 abbrev pub feed_from : ℕ → List ℕ → Option ℕ
-feed_from n [] = None
-feed_from n (b ∷ bs) = cond (b == 10) (Some n) (feed_from (n + 1) bs)
+feed_from n bs = position_from (λ b. b == 10) n bs
 
 -- a line of `long` bytes and its line feed at the front of the bytes, read by `reading`
 abbrev pub cut_reading : {X : Type 0} → ℕ → (List ℕ → Result X FileFault) → List ℕ → Option ℕ → Result X FileFault

@@ -3,6 +3,7 @@ ghost use Rattle.lines.specs.declared.fault.FileFault.TheVariants.{Line};
 ghost use Rattle.lines.specs.declared.fault.LineFault.TheVariants.{Field};
 
 use terms::InputCause;
+use thiserror::Error;
 
 /// A fault in one field of a line.
 #[derive(Clone, Copy, PartialEq, Eq, Debug)]
@@ -22,7 +23,8 @@ pub enum LineFault {
 }
 
 /// A fault of a line as part of its file: of the line itself, or against what earlier lines or the calendar say.
-#[derive(Clone, Copy, PartialEq, Eq, Debug)]
+#[derive(Clone, Copy, PartialEq, Eq, Debug, Error)]
+#[error("{number} at position {position}: {cause}", number = self.cause().number(), position = self.position(), cause = self.cause())]
 pub enum FileFault {
     Line(LineFault),
     DayOutOfRange(usize),
@@ -31,7 +33,8 @@ pub enum FileFault {
 }
 
 /// A fault with the line of the file in which it lies.
-#[derive(Clone, Copy, PartialEq, Eq, Debug)]
+#[derive(Clone, Copy, PartialEq, Eq, Debug, Error)]
+#[error("line {line}: {fault}")]
 pub struct Fault {
     /// The number of the line, from 1.
     pub line: usize,

@@ -19,12 +19,13 @@ pub trait Line {
     /// How many bytes a line has before its line feed.
     const LENGTH: usize;
 
+    /// The same number, which proofs know.
+    ghost LENGTH: { ℕ };
+
     /// The values of the fields that a value stands for.
     ghost Says: { Type 0 };
 
     ghost says: { Self.Value → Says };
-
-    ghost long: { ℕ };
 
     /// The table of fields that a line is judged and read by.
     ghost place: { Self.Context → List ℕ → Place Says };
@@ -35,21 +36,17 @@ pub trait Line {
     /// What may be written: each field is allowed by the table.
     ghost fits: { Self.Context → Self.Value → Type 0 };
 
-    /// The length of a line, which proofs know.
-    fn width() -> usize
-        ensures { result ≡ long };
-
     /// Reads a line of that length: judges its fields from the left.
     fn read(line: &[u8], context: &Self::Context) -> Result<Self::Value, FileFault>
-        requires { length line.now ≡ long }
+        requires { length line.now ≡ LENGTH }
         ensures { result_map_both says (λ e. e) result ≡ place_reading (place context.now line.now) line.now };
 
     /// Writes a line over that many bytes.
     fn write(value: &Self::Value, context: &Self::Context, out: &mut [u8])
-        requires { length out.old ≡ long }
+        requires { length out.old ≡ LENGTH }
         ensures { out.new ≡ image context.now value.now };
 
-    ghost tiled: { (c : Self.Context) (l : List ℕ) → line_width (place c l).table ≡ long };
+    ghost tiled: { (c : Self.Context) (l : List ℕ) → line_width (place c l).table ≡ LENGTH };
 
     ghost unbroken: { (c : Self.Context) (v : Self.Value) → fits c v → plain (image c v) ≡ true };
 
@@ -61,25 +58,18 @@ fn feed(bytes: &[u8]) -> Option<usize>
     ensures value { result ≡ feed_from 0 bytes.now }
     ensures within { IfSome result (λ n. n < length bytes.now) }
 {
-    for (i, byte) in bytes.iter().enumerate() {
-        if *byte == b'\n' {
-            return Some(i);
-        }
-    }
-    None
+    bytes.iter().position(|byte| *byte == b'\n')
 }
 
 /// Reads the line at the front of the bytes: finds its line feed, tests its length, and judges its fields from the left.
 pub fn read_line<L: Line>(bytes: &[u8], context: &L::Context) -> Result<L::Value, FileFault>
-    ensures { result_map_both L.Line.says (λ e. e) result ≡ line_reading L.Line.long (λ l. place_reading (L.Line.place context.now l) l) bytes.now }
+    ensures { result_map_both L.says (λ e. e) result ≡ line_reading L.LENGTH (λ l. place_reading (L.place context.now l) l) bytes.now }
 {
-    let Some(found) = feed(bytes) else {
-        return Err(FileFault::Line(LineFault::NoLineFeed(bytes.len() + 1)));
-    };
-    if found != L::width() {
-        return Err(FileFault::Line(LineFault::WrongLength));
+    let found = feed(bytes).ok_or(LineFault::NoLineFeed(bytes.len() + 1))?;
+    if found != L::LENGTH {
+        return Err(LineFault::WrongLength.into());
     }
-    L::read(&bytes[0..found], context)
+    L::read(&bytes[..found], context)
 }
 
 /// Writes a line and its line feed at the front of an area, and answers how many bytes these are. An area that is too small is left as it is.
@@ -88,21 +78,20 @@ pub fn write_line<L: Line>(
     context: &L::Context,
     out: &mut [u8],
 ) -> Result<usize, StateCause>
-    ensures answer { result ≡ put_answer L.Line.long out.old }
-    ensures after { out.new ≡ put_after L.Line.long (L.Line.image context.now value.now) out.old }
-    ensures back { L.Line.fits context.now value.now → is_ok result ≡ true → line_reading L.Line.long (λ l. place_reading (L.Line.place context.now l) l) out.new ≡ Ok (L.Line.says value.now) }
+    ensures answer { result ≡ put_answer L.LENGTH out.old }
+    ensures after { out.new ≡ put_after L.LENGTH (L.image context.now value.now) out.old }
+    ensures back { L.fits context.now value.now → is_ok result ≡ true → line_reading L.LENGTH (λ l. place_reading (L.place context.now l) l) out.new ≡ Ok (L.says value.now) }
 {
-    let long = L::width();
-    if out.len() <= long {
+    if out.len() <= L::LENGTH {
         return Err(StateCause::AreaTooSmall);
     }
-    L::write(value, context, &mut out[0..long]);
-    out[long] = b'\n';
-    Ok(long + 1)
+    L::write(value, context, &mut out[..L::LENGTH]);
+    out[L::LENGTH] = b'\n';
+    Ok(L::LENGTH + 1)
 }
 
 /// For every kind of line, whatever its context: one of its length is accepted exactly if it is the image of allowed values, free places among
 /// them, and then says these; else it gets the fault of the first field from the left that has one, with the lowest cause in that field.
 pub fn lines_are_read_by_table<L: Line>()
-    ensures { (c : L.Context) (l : List ℕ) → length l ≡ L.Line.long → ReadsPlace (L.Line.place c l) l }
+    ensures { (c : L.Context) (l : List ℕ) → length l ≡ L.LENGTH → ReadsPlace (L.place c l) l }
 {}

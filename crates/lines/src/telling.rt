@@ -1,8 +1,7 @@
 ghost use Rattle.std.specs.Prelude.{◌≡◌};
-ghost use Rattle.lines.specs.Faults.{cause_of, fault_layer, layer_of_cause, line_cause, line_position, numbered, position_of};
+ghost use Rattle.lines.specs.Faults.{cause_of, fault_layer, fault_of, layer_of_cause, line_cause, line_position, numbered, position_of};
 
-use crate::{Fault, FileFault, Layer, LineFault};
-use std::fmt;
+use crate::{Fault, FieldFault, FileFault, Layer, LineFault};
 use terms::InputCause;
 
 impl LineFault {
@@ -30,6 +29,20 @@ impl LineFault {
 }
 
 impl FileFault {
+    /// The fault of a cause at a place of the line, from 1.
+    pub fn of_cause(cause: InputCause, position: usize) -> FileFault
+        ensures { result ≡ fault_of cause position }
+    {
+        match cause {
+            InputCause::NoLineFeed => FileFault::Line(LineFault::NoLineFeed(position)),
+            InputCause::WrongLength => FileFault::Line(LineFault::WrongLength),
+            InputCause::DayOutOfRange => FileFault::DayOutOfRange(position),
+            InputCause::DayNotOpen => FileFault::DayNotOpen(position),
+            InputCause::Differs => FileFault::Differs(position),
+            _ => FileFault::Line(LineFault::Field(FieldFault { cause, position })),
+        }
+    }
+
     /// What is wrong.
     pub fn cause(self) -> InputCause
         ensures { result ≡ cause_of self }
@@ -81,22 +94,5 @@ pub fn layer_of(cause: InputCause) -> Layer
         InputCause::NoLineFeed | InputCause::WrongLength => Layer::Line,
         InputCause::DayOutOfRange | InputCause::DayNotOpen | InputCause::Differs => Layer::File,
         _ => Layer::Field,
-    }
-}
-
-impl fmt::Display for FileFault {
-    fn fmt<W: fmt::Write>(&self, f: &mut fmt::Formatter<W>) -> fmt::Result {
-        let cause = self.cause();
-        let number = cause.number();
-        let position = self.position();
-        write!(f, "{number} at position {position}: {cause}")
-    }
-}
-
-impl fmt::Display for Fault {
-    fn fmt<W: fmt::Write>(&self, f: &mut fmt::Formatter<W>) -> fmt::Result {
-        let line = self.line;
-        let fault = self.fault;
-        write!(f, "line {line}: {fault}")
     }
 }

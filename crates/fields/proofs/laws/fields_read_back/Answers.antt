@@ -1,4 +1,4 @@
-use Rattle.std.proofs.Common.{◌≡◌, ℕ, Some, None, Ok, Option, refl, subst, arith}
+use Rattle.std.proofs.Common.{◌≡◌, Some, None, Ok, Option, refl, subst}
 use Rattle.terms.specs.declared.cause.InputCause.{InputCause}
 use Rattle.tables.specs.Kinds.{Kind, Value, Allowed, field, judge, says}
 use Rattle.tables.specs.Walks.{judged, reading}
@@ -8,7 +8,7 @@ use Rattle.fields.proofs.laws.fields_read_back.Goals as goal
 
 no_cause : {V : Type 0} (o : Option InputCause) (x v : V) → judged o x ≡ Ok v → (o ≡ None) × (x ≡ v)
 no_cause None x v h = (refl, (cc))
-no_cause (Some c) x v h = absurd (let z : ◌≡◌ {A = ℕ} 0 1 = cc in omega arith)
+no_cause (Some c) x v h = cc
 
 reads_back : (k : Kind) → ReadsBack k
 unfolding reading

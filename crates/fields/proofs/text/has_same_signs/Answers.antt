@@ -1,28 +1,24 @@
-use Rattle.std.proofs.Common.{◌≡◌, ◌+◌, ◌-◌, not, ◌||◌, eqb, length, get_or, take, drop, sym, ap, ◌∙◌, rules}
-use Rattle.std.proofs.lemmas.List.{at_drop_more, at_drop_all, take_rest}
-use Rattle.fields.specs.Characters.{each, is_sign_byte}
-use Rattle.fields.specs.Words.{same_signs}
-use Rattle.fields.proofs.Signs.{no_other_sign, same_first, same_passed}
+use Rattle.std.proofs.Common.{◌≡◌, eqb, Some, sym, ◌∙◌, rules}
+use Rattle.std.proofs.lemmas.Iterator.{YieldsList-from_slice}
+use Rattle.std.proofs.lemmas.Iterator.Consumers.{YieldsList-from_filter}
+use Rattle.std.proofs.lemmas.Iterator.Search.{all_from_yields_List, find_from_yields_List}
+use Rattle.std.specs.List.{find}
+use borrow.Author.Tests.{tests}
+use Rattle.fields.specs.Characters.{is_sign_byte}
+use Rattle.fields.proofs.Signs.{same_first, same_none}
 use Rattle.fields.proofs.text.has_same_signs.Goals as goal
 
-pub returns-then-is_sign : goal.returns-then-is_sign
-returns-then-is_sign c =
+pub returns-in-Some : goal.returns-in-Some
+returns-in-Some c =
     let xs = c.args.field.now in
-    let i = c.loop-i.i in
-    let b = get_or xs i 0 in
-    let rest = drop (i + 1) xs in
-    let here : each (λ c. not (is_sign_byte c) || eqb c b) (take (length xs - (i + 1)) rest) ≡ same_signs xs =
-    ap (each (λ c. not (is_sign_byte c) || eqb c b)) (take_rest xs (i + 1))
-    ∙ no_other_sign b rest
-    ∙ sym (at_drop_more same_signs xs i 0 c.loop-i-test.true ∙ same_first b rest (sym c.if-is_sign.ensures))
-    ∙ c.loop-i.invariant in
-    search (rules, here)
+    let f = c.in-Some.first.now in
+    let found = find_from_yields_List is_sign_byte _ _ c.find.result c.find.ensures.ran (YieldsList-from_slice xs cc) (λ x b q k. search (rules, tests)) in
+    let first : find is_sign_byte xs ≡ Some f = rw c.in-Some.is at (sym found) in
+    all_from_yields_List (λ b. eqb b f) _ _ _ c.all.ensures.ran (YieldsList-from_filter _ is_sign_byte (YieldsList-from_slice xs cc) c.filter.ensures.closure (λ x b q k. search (rules, tests))) (λ x b q k. search (rules, tests))
+    ∙ sym (same_first f xs first)
 
-pub loop-i-preserved : goal.loop-i-preserved
-loop-i-preserved c =
+pub returns-in-None : goal.returns-in-None
+returns-in-None c =
     let xs = c.args.field.now in
-    let i = c.loop-i.i in
-    sym (at_drop_more same_signs xs i 0 c.loop-i-test.true ∙ same_passed (get_or xs i 0) (drop (i + 1) xs) (sym c.if-is_sign.ensures)) ∙ c.loop-i.invariant
-
-pub returns : goal.returns
-returns c = sym (at_drop_all same_signs c.args.field.now c.loop-i.i c.loop-i-test.false) ∙ c.loop-i.invariant
+    let found = find_from_yields_List is_sign_byte _ _ c.find.result c.find.ensures.ran (YieldsList-from_slice xs cc) (λ x b q k. search (rules, tests)) in
+    sym (same_none xs (rw c.in-None.is at (sym found)))
