@@ -1,1 +1,2 @@
-pub mod Passing
+pub mod OwnerWritten
+pub mod WorkCodes

@@ -28,19 +28,16 @@ abbrev pub user_field : List ℕ → Kind
 user_field places = choice 6 (blank 6 ∷ places ∷ [])
 
 abbrev pub user : Owner → Kind
-user o = choice 6 (blank 6 ∷ places_of_owner o ∷ [])
+user o = user_field (places_of_owner o)
 
--- the same by plain values
+-- 1-5 label, 6-11 free, 12 fixed, 15 free, 16-21 free, 22-27 serial, 28-35 fixed, 36-39 and 40-41 free, 42-47 creation, 48-53 expiry, 54 free, 55-60 zeros
 abbrev pub hdr1_layout : List ℕ → List ℕ → Table
 hdr1_layout places s =
     head (codes "HDR1A") ∷ user_field places ∷ head (codes "S") ∷ spaces 2 ∷ choice 1 (blank 1 ∷ codes "1" ∷ []) ∷ user_field places ∷ letters_given 6 [] (Some s) ∷ head (codes "00010001")
     ∷ digits_or_spaces 4 ∷ digits_or_spaces 2 ∷ date [] ∷ date [] ∷ choice 1 (blank 1 ∷ codes "0" ∷ []) ∷ head (codes "000000") ∷ spaces 20 ∷ []
 
--- 1-5 label, 6-11 free, 12 fixed, 15 free, 16-21 free, 22-27 serial, 28-35 fixed, 36-39 and 40-41 free, 42-47 creation, 48-53 expiry, 54 free, 55-60 zeros
 abbrev pub hdr1 : Owner → List ℕ → Table
-hdr1 o s =
-    head (codes "HDR1A") ∷ user o ∷ head (codes "S") ∷ spaces 2 ∷ choice 1 (blank 1 ∷ codes "1" ∷ []) ∷ user o ∷ letters_given 6 [] (Some s) ∷ head (codes "00010001")
-    ∷ digits_or_spaces 4 ∷ digits_or_spaces 2 ∷ date [] ∷ date [] ∷ choice 1 (blank 1 ∷ codes "0" ∷ []) ∷ head (codes "000000") ∷ spaces 20 ∷ []
+hdr1 o s = hdr1_layout (places_of_owner o) s
 
 abbrev pub header : List ℕ → List ℕ → List ℕ → List ℕ → List ℕ → List ℕ → ℕ → ℕ → List ℕ → Hdr1
 header u v w s x y c e a = record { creation = c; expiry = e; free = record { user = u; version = v; user_again = w; spare4 = x; spare2 = y; access = a } }

@@ -10,7 +10,7 @@ use Rattle.tables.specs.Laying.{laid}
 use Rattle.tables.specs.Lines.{Table, AllAllowed}
 use Rattle.fields.specs.Words.{blank, choice, date, digits_or_spaces, head, number, rule, spaces}
 use Rattle.lines.specs.Places.{Place, stands}
-use Rattle.places.specs.Given.{open_day_rules, usable_rules}
+use Rattle.places.specs.Given.{usable_rules}
 use Rattle.labels.specs.declared.user.Uhl1.{Uhl1}
 use Rattle.labels.specs.declared.user.Uhl1Context.{Uhl1Context}
 
@@ -25,7 +25,7 @@ abbrev pub processing_day : Service → ℕ → ℕ → ℕ → (ℕ → Bool) �
 processing_day g o c e opens = date (usable_rules (in_order g o c e) opens)
 
 abbrev pub processing : Uhl1Context → Kind
-processing k = date (open_day_rules (in_order k.service k.opening k.creation k.expiry) k.«open»)
+processing k = processing_day k.service k.opening k.creation k.expiry (λ _. k.«open»)
 
 -- the kind of file
 abbrev pub work : Service → Bool → List ℕ
@@ -37,17 +37,14 @@ work FasterPayments multi = codes "2 FPS    "
 abbrev pub only : ℕ → List ℕ → Kind
 only w bs = letters w (rule NotListed (λ v. bytes_eq v bs) ∷ [])
 
--- the same by plain values
+-- 1-4 label, 5-10 processing day, 11-16 fixed, 21-28 zeros, 29-37 work code, 38-40 file number, 48-50 and 51-54 free
 abbrev pub uhl1_layout : Kind → List ℕ → Table
 uhl1_layout day code =
     head (codes "UHL1") ∷ day ∷ head (codes "999999") ∷ spaces 4 ∷ head (codes "00000000") ∷ only 9 code ∷ number 3
     ∷ spaces 7 ∷ choice 3 (blank 3 ∷ codes "AUD" ∷ []) ∷ digits_or_spaces 4 ∷ spaces 26 ∷ []
 
--- 1-4 label, 5-10 processing day, 11-16 fixed, 21-28 zeros, 29-37 work code, 38-40 file number, 48-50 and 51-54 free
 abbrev pub uhl1 : Uhl1Context → Table
-uhl1 k =
-    head (codes "UHL1") ∷ processing k ∷ head (codes "999999") ∷ spaces 4 ∷ head (codes "00000000") ∷ only 9 (work k.service k.multi) ∷ number 3
-    ∷ spaces 7 ∷ choice 3 (blank 3 ∷ codes "AUD" ∷ []) ∷ digits_or_spaces 4 ∷ spaces 26 ∷ []
+uhl1 k = uhl1_layout (processing k) (work k.service k.multi)
 
 abbrev pub labelled : ℕ → ℕ → Uhl1
 labelled d n = record { processing = d; number = n }

@@ -49,6 +49,11 @@ volume o s = record { owner = o; serial = s }
 abbrev pub vol1_place : List ℕ → Place Vol1Says
 vol1_place l = cond (has_sun l) (stands vol1_sun (λ s free n. volume (numbered n) s)) (stands vol1_marked (λ s free m. volume (marked m) s))
 
+-- VOL1 32-37
+abbrev pub places_of_mark : Owner → List ℕ
+places_of_mark (Sun n) = blank 6
+places_of_mark (Marked m) = mark_text m
+
 -- the line that is written: the free place is a space
 abbrev pub owner_line : OwnerSays → List ℕ → List ℕ
 owner_line (numbered n) s = laid vol1_sun s (blank 1) n

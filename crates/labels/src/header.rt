@@ -31,6 +31,7 @@ pub struct Hdr1Context {
 /// What HDR2 says: whether the file is multi-day, by the length of its records.
 #[derive(Clone, Copy)]
 pub struct Hdr2 {
+    // A yes or no with no value beside it: an enum of the two would be compared with one of them wherever this is asked.
     pub multi: bool,
 }
 

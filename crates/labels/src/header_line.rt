@@ -1,6 +1,4 @@
-ghost use Rattle.std.specs.Prelude.{◌≡◌, ℕ, ◌+◌, ◌≤◌, List, length};
-ghost use Rattle.lines.specs.Faults.{fault_of, of_file};
-ghost use Rattle.tables.specs.Walks.{field_reading};
+ghost use Rattle.std.specs.Prelude.{◌≡◌};
 ghost use Rattle.labels.specs.declared.header.Hdr1.{Hdr1 as Header1};
 ghost use Rattle.labels.specs.Headers.{Hdr1Fits, hdr1_line, hdr1_place, places_of_owner, user};
 ghost use Rattle.labels.specs.HeaderLaws.{hdr1_unbroken, hdr1_back};
@@ -9,11 +7,12 @@ ghost use Rattle.std.proofs.Common.{rules};
 use crate::{Hdr1, Hdr1Context, Hdr1Free};
 use digits::put_digits;
 use fields::Owner;
-use lines::{FieldFault, FileFault, Line};
+use lines::{FileFault, Line};
 use places::{
-    expect, expect_spaces, expect6, put_array, put_bytes, put_day, put_spaces, read_day,
-    read_free1, read_free6, read_spare2, read_spare4,
+    AnyBytes, BlankOr, Date, DigitsOrSpaces, Field, Fixed, Given, Spaces, put_bytes, put_day,
+    put_spaces,
 };
+use terms::InputCause;
 
 /// The kind of line that gives the dates of a file.
 pub struct Hdr1Label;
@@ -29,7 +28,7 @@ impl Line for Hdr1Label {
 
     ghost says = { λ h. h };
 
-    ghost long = { 80 };
+    ghost LENGTH = { 80 };
 
     ghost place = { λ k l. hdr1_place k };
 
@@ -43,26 +42,22 @@ impl Line for Hdr1Label {
 
     ghost back = { hdr1_back };
 
-    fn width() -> usize {
-        Self::LENGTH
-    }
-
     fn read(line: &[u8], context: &Hdr1Context) -> Result<Hdr1, FileFault> {
-        expect(line, 0, b"HDR1A")?;
-        let user = read_user(line, 5, context.owner)?;
-        expect(line, 11, b"S")?;
-        expect_spaces(line, 12, 14)?;
-        let version = read_free1(line, 14, b"1")?;
-        let user_again = read_user(line, 15, context.owner)?;
-        expect6(line, 21, context.serial)?;
-        expect(line, 27, b"00010001")?;
-        let spare4 = read_spare4(line, 35)?;
-        let spare2 = read_spare2(line, 39)?;
-        let creation = read_day(line, 41)?;
-        let expiry = read_day(line, 47)?;
-        let access = read_free1(line, 53, b"0")?;
-        expect(line, 54, b"000000")?;
-        expect_spaces(line, 60, 80)?;
+        Fixed(b"HDR1A").at(line, 0)?;
+        let user = OwnerAgain(context.owner).at(line, 5)?;
+        Fixed(b"S").at(line, 11)?;
+        Spaces(2).at(line, 12)?;
+        let version = BlankOr(*b"1").at(line, 14)?;
+        let user_again = OwnerAgain(context.owner).at(line, 15)?;
+        Given(AnyBytes, context.serial).at(line, 21)?;
+        Fixed(b"00010001").at(line, 27)?;
+        let spare4 = DigitsOrSpaces::<4>.at(line, 35)?;
+        let spare2 = DigitsOrSpaces::<2>.at(line, 39)?;
+        let creation = Date.at(line, 41)?;
+        let expiry = Date.at(line, 47)?;
+        let access = BlankOr(*b"0").at(line, 53)?;
+        Fixed(b"000000").at(line, 54)?;
+        Spaces(20).at(line, 60)?;
         let free = Hdr1Free {
             user,
             version,
@@ -85,7 +80,7 @@ impl Line for Hdr1Label {
         put_spaces(out, 12, 14);
         put_spaces(out, 14, 15);
         put_spaces(out, 15, 21);
-        put_array(out, 21, context.serial);
+        put_bytes(out, 21, &context.serial);
         put_bytes(out, 27, b"00010001");
         put_spaces(out, 35, 39);
         put_spaces(out, 39, 41);
@@ -97,14 +92,24 @@ impl Line for Hdr1Label {
     }
 }
 
-/// A free place that is blank or repeats VOL1 42-47.
-fn read_user(line: &[u8], from: usize, owner: Owner) -> Result<[u8; 6], FieldFault>
-    requires within { from + 6 ≤ length line.now }
-    requires small { from ≤ 106 }
-    ensures { of_file (λ v. v) result ≡ field_reading fault_of (user owner) from line.now }
-{
-    let text = owner_places(owner);
-    read_free6(line, from, &text)
+/// A free place that is blank or repeats VOL1 42-47. By its own kind, the table's kind is named by the owner and not by what a call answered.
+#[derive(Clone, Copy)]
+struct OwnerAgain(Owner);
+
+impl Field for OwnerAgain {
+    type Said = [u8; 6];
+
+    ghost kind = { λ f. user f.0 };
+
+    ghost says = { λ _ v. v };
+
+    fn places(&self) -> usize {
+        6
+    }
+
+    fn read(&self, bytes: &[u8]) -> Result<[u8; 6], InputCause> {
+        BlankOr(owner_places(self.0)).read(bytes)
+    }
 }
 
 /// What stands at VOL1 42-47: the service user number, or spaces beside a mark.

@@ -1,5 +1,5 @@
 //! The labels before the batches of a file: VOL1, HDR1, HDR2 and UHL1.
-#![tactic(auto)]
+#![tactic(auto, using(places::proofs::Fronting::front_none, places::proofs::Fronting::front_all))]
 
 mod header;
 mod header_line;

@@ -17,5 +17,6 @@ pub struct Uhl1Context {
     pub expiry: u32,
     pub multi: bool,
     /// Whether the calendar opens the day that stands at 5-10, if one stands there: whoever reads the line looks it up.
+    // The answer and no day with it: the day stands in the line, which is judged after this is made.
     pub open: bool,
 }

@@ -1,19 +1,17 @@
-ghost use Rattle.std.specs.Prelude.{◌≡◌, length};
+ghost use Rattle.std.specs.Prelude.{◌≡◌};
 ghost use Rattle.labels.specs.declared.user.Uhl1.{Uhl1 as UserLabel};
-ghost use Rattle.lines.specs.Faults.{fault_of, of_file};
-ghost use Rattle.tables.specs.Walks.{field_reading};
 ghost use Rattle.labels.specs.Users.{in_order, only, processing, Uhl1Fits, uhl1_line, uhl1_place, work};
 ghost use Rattle.labels.specs.UserLaws.{uhl1_unbroken, uhl1_back};
 ghost use Rattle.std.proofs.Common.{rules};
 
 use crate::{Uhl1, Uhl1Context};
 use fields::judge_fixed;
-use lines::{FieldFault, FileFault, Line};
+use lines::{FileFault, Line};
 use places::{
-    at, expect, expect_spaces, part, put_array, put_bytes, put_day, put_number, put_spaces,
-    read_day, read_free3, read_small, read_spare4,
+    BlankOr, Date, DigitsOrSpaces, Field, Fixed, SmallNumber, Spaces, put_bytes, put_day,
+    put_number, put_spaces, usable_day,
 };
-use terms::Service;
+use terms::{InputCause, Service};
 
 /// The kind of line that gives the processing day.
 pub struct Uhl1Label;
@@ -29,7 +27,7 @@ impl Line for Uhl1Label {
 
     ghost says = { λ u. u };
 
-    ghost long = { 80 };
+    ghost LENGTH = { 80 };
 
     ghost place = { λ k l. uhl1_place k };
 
@@ -43,22 +41,22 @@ impl Line for Uhl1Label {
 
     ghost back = { uhl1_back };
 
-    fn width() -> usize {
-        Self::LENGTH
-    }
-
     fn read(line: &[u8], context: &Uhl1Context) -> Result<Uhl1, FileFault> {
-        expect(line, 0, b"UHL1")?;
-        let processing = read_processing_day(line, context)?;
-        expect(line, 10, b"999999")?;
-        expect_spaces(line, 16, 20)?;
-        expect(line, 20, b"00000000")?;
-        expect_work_code(line, context.service, context.multi)?;
-        let number = read_small(line, 37, 40)?;
-        expect_spaces(line, 40, 47)?;
-        read_free3(line, 47, b"AUD")?;
-        read_spare4(line, 50)?;
-        expect_spaces(line, 54, 80)?;
+        Fixed(b"UHL1").at(line, 0)?;
+        let processing = ProcessingDay(*context).at(line, 4)?;
+        Fixed(b"999999").at(line, 10)?;
+        Spaces(4).at(line, 16)?;
+        Fixed(b"00000000").at(line, 20)?;
+        WorkCode {
+            service: context.service,
+            multi: context.multi,
+        }
+        .at(line, 28)?;
+        let number = SmallNumber { places: 3 }.at(line, 37)?;
+        Spaces(7).at(line, 40)?;
+        BlankOr(*b"AUD").at(line, 47)?;
+        DigitsOrSpaces::<4>.at(line, 50)?;
+        Spaces(26).at(line, 54)?;
         Ok(Uhl1 { processing, number })
     }
 
@@ -68,7 +66,7 @@ impl Line for Uhl1Label {
         put_bytes(out, 10, b"999999");
         put_spaces(out, 16, 20);
         put_bytes(out, 20, b"00000000");
-        put_array(out, 28, work_code(context.service, context.multi));
+        put_bytes(out, 28, &work_code(context.service, context.multi));
         put_number(out, 37, 40, value.number as u64);
         put_spaces(out, 40, 47);
         put_spaces(out, 47, 50);
@@ -87,12 +85,27 @@ pub fn work_code(service: Service, multi: bool) -> [u8; 9]
     }
 }
 
-fn expect_work_code(line: &[u8], service: Service, multi: bool) -> Result<(), FieldFault>
-    requires { length line.now ≡ 80 }
-    ensures { of_file (λ _. work service multi) result ≡ field_reading fault_of (only 9 (work service multi)) 28 line.now }
-{
-    let text = work_code(service, multi);
-    at(28, judge_fixed(part(line, 28, 37), &text))
+/// The work code of the file, exactly.
+#[derive(Clone, Copy)]
+struct WorkCode {
+    service: Service,
+    multi: bool,
+}
+
+impl Field for WorkCode {
+    type Said = ();
+
+    ghost kind = { λ f. only 9 (work f.service f.multi) };
+
+    ghost says = { λ f _. work f.service f.multi };
+
+    fn places(&self) -> usize {
+        9
+    }
+
+    fn read(&self, bytes: &[u8]) -> Result<(), InputCause> {
+        judge_fixed(bytes, &work_code(self.service, self.multi))
+    }
 }
 
 /// Whether the days of the file stand in order: for Faster Payments all are the opening day.
@@ -109,16 +122,23 @@ pub fn is_in_order(context: &Uhl1Context, day: u32) -> bool
     }
 }
 
-fn read_processing_day(line: &[u8], context: &Uhl1Context) -> Result<u32, FileFault>
-    requires { length line.now ≡ 80 }
-    ensures { result ≡ field_reading fault_of (processing context.now) 4 line.now }
-{
-    let day = read_day(line, 4)?;
-    if !is_in_order(context, day) {
-        return Err(FileFault::DayOutOfRange(5));
+/// The processing day: in order, and open.
+#[derive(Clone, Copy)]
+struct ProcessingDay(Uhl1Context);
+
+impl Field for ProcessingDay {
+    type Said = u32;
+
+    ghost kind = { λ f. processing f.0 };
+
+    ghost says = { λ _ d. d };
+
+    fn places(&self) -> usize {
+        6
     }
-    if !context.open {
-        return Err(FileFault::DayNotOpen(5));
+
+    fn read(&self, bytes: &[u8]) -> Result<u32, InputCause> {
+        let day = Date.read(bytes)?;
+        usable_day(day, is_in_order(&self.0, day), self.0.open)
     }
-    Ok(day)
 }

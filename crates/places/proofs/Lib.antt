@@ -1,6 +1,6 @@
 pub mod Days
+pub mod Placing
 pub mod Fronting
 pub mod Givens
-pub mod Levels
 pub mod Meanings
 pub mod Unbroken

@@ -51,9 +51,6 @@ abbrev pub PlainTable : Table → Type 0
 PlainTable [] = Unit {0}
 PlainTable (k ∷ ks) = PlainKind k × PlainTable ks
 
-pub decimal_plain : (w n : ℕ) → plain (shown (decimals w) n) ≡ true
-decimal_plain w n = shown_plain (decimals w) n
-
 pub line_plain : (t : Table) (v : Values t) → PlainTable t → AllAllowed t v → plain (line t v) ≡ true
 line_plain [] v p a = refl
 line_plain (fixed c bs ∷ ks) v p a = plain_append bs (line ks v) p.0 (line_plain ks v p.1 a)

@@ -1,40 +1,47 @@
 //! Fields with fixed contents.
-ghost use Rattle.std.specs.Prelude.{◌≡◌, ◌+◌, ◌-◌, ◌≤◌, length};
-ghost use Rattle.fields.specs.Words.{again, head, spaces};
-ghost use Rattle.lines.specs.Faults.{fault_of, of_file};
-ghost use Rattle.tables.specs.Walks.{field_reading};
+ghost use Rattle.std.specs.Prelude.{◌≡◌, length};
+ghost use Rattle.fields.specs.Words.{head, spaces};
 
-use crate::cuts::{at, part};
+use crate::field::Field;
 use fields::{judge_fixed, judge_spaces};
-use lines::{FieldFault, FileFault};
+use terms::InputCause;
 
-/// Fixed contents, as the head of a label.
-pub fn expect(line: &[u8], from: usize, text: &[u8]) -> Result<(), FieldFault>
-    requires within { from + length text.now ≤ length line.now }
-    requires small { from ≤ 106 }
-    ensures { of_file (λ v. v) result ≡ field_reading fault_of (head text.now) from line.now }
-{
-    at(from, judge_fixed(part(line, from, from + text.len()), text))
+/// These contents, as the head of a label.
+#[derive(Clone, Copy)]
+pub struct Fixed<'a>(pub &'a [u8]);
+
+impl<'a> Field for Fixed<'a> {
+    type Said = ();
+
+    ghost kind = { λ f. head f.0.now };
+
+    ghost says = { λ f v. v };
+
+    fn places(&self) -> usize {
+        self.0.len()
+    }
+
+    fn read(&self, bytes: &[u8]) -> Result<(), InputCause> {
+        judge_fixed(bytes, self.0)
+    }
 }
 
-/// A run of unnamed places.
-pub fn expect_spaces(line: &[u8], from: usize, to: usize) -> Result<(), FieldFault>
-    requires order { from ≤ to }
-    requires within { to ≤ length line.now }
-    requires small { from ≤ 106 }
-    ensures { of_file (λ v. v) result ≡ field_reading fault_of (spaces (to - from)) from line.now }
-{
-    at(from, judge_spaces(part(line, from, to)))
-}
+/// So many spaces, in unnamed places.
+#[derive(Clone, Copy)]
+pub struct Spaces(pub usize);
 
-/// Contents that earlier lines fix.
-pub fn expect_again(line: &[u8], from: usize, text: &[u8]) -> Result<(), FileFault>
-    requires within { from + length text.now ≤ length line.now }
-    requires small { from ≤ 106 }
-    ensures { result ≡ field_reading fault_of (again text.now) from line.now }
-{
-    match judge_fixed(part(line, from, from + text.len()), text) {
-        Ok(()) => Ok(()),
-        Err(_) => Err(FileFault::Differs(from + 1)),
+impl Field for Spaces {
+    type Said = ();
+
+    ghost kind = { λ f. spaces f.0 };
+
+    ghost says = { λ f v. v };
+
+    fn places(&self) -> usize {
+        self.0
+    }
+
+    fn read(&self, bytes: &[u8]) -> Result<(), InputCause> {
+        judge_spaces(bytes)
     }
 }

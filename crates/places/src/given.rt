@@ -1,140 +1,90 @@
 //! Fields that earlier lines may fix. Where they do, the field is compared and has one fault.
-ghost use Rattle.std.specs.Prelude.{◌≡◌, ◌+◌, ◌-◌, ◌≤◌, [], length, Some};
-ghost use Rattle.std.specs.Option.{option_map as if_some};
-ghost use Rattle.std.specs.Result.{result_map_both};
-ghost use Rattle.lines.specs.Faults.{fault_of};
-ghost use Rattle.places.specs.Given.{digits_given, day_given, filled_given, letters_given, text_given};
-ghost use Rattle.tables.specs.Walks.{field_reading};
+ghost use Rattle.std.specs.Prelude.{◌≡◌, length};
+ghost use Rattle.places.specs.Given.{given, given_value, value_stands};
+ghost use Rattle.tables.specs.Kinds.{width};
 
-use crate::cuts::part;
-use crate::letters::{read_filled, read_text};
-use crate::numbers::{read_account, read_sort_code};
+use crate::field::Field;
+use crate::fixed::Fixed;
+use crate::letters::{AnyBytes, Filled, Text};
+use crate::numbers::{BankDigits, Date, Number};
 use days::read_date;
 use digits::read_digits;
-use fields::{AccountNumber, SortCode, judge_fixed};
-use lines::FileFault;
-use terms::Service;
+use fields::BankNumber;
+use terms::InputCause;
 
-/// The given number, in digits.
-pub fn expect_number(line: &[u8], from: usize, to: usize, number: u64) -> Result<(), FileFault>
-    requires order { from ≤ to }
-    requires few { to - from ≤ 19 }
-    requires within { to ≤ length line.now }
-    requires small { from ≤ 106 }
-    ensures { result_map_both (λ _. number) (λ e. e) result ≡ field_reading fault_of (digits_given (to - from) (Some number)) from line.now }
+/// A kind of field that earlier lines may fix.
+pub trait Fixable: Field {
+    /// Whether the bytes of the field say this value.
+    fn stands(&self, bytes: &[u8], value: &Self::Said) -> bool
+        requires { length bytes.now ≡ width (Self.kind self.now) }
+        ensures { result ≡ value_stands (Self.kind self.now) (Self.says self.now value.now) bytes.now };
+}
+
+/// A field with the value that earlier lines fix.
+#[derive(Clone, Copy)]
+pub struct Given<F, V>(pub F, pub V);
+
+impl<F: Fixable> Field for Given<F, F::Said>
+where
+    F::Said: Copy,
 {
-    match read_digits(part(line, from, to)) {
-        Ok(read) => {
-            if read == number {
-                Ok(())
-            } else {
-                Err(FileFault::Differs(from + 1))
-            }
+    type Said = F::Said;
+
+    ghost kind = { λ f. given (F.kind f.0) (F.says f.0 f.1) };
+
+    ghost says = { λ f v. given_value (F.kind f.0) (F.says f.0 f.1) (F.says f.0 v) };
+
+    fn places(&self) -> usize {
+        self.0.places()
+    }
+
+    fn read(&self, bytes: &[u8]) -> Result<F::Said, InputCause> {
+        if self.0.stands(bytes, &self.1) {
+            Ok(self.1)
+        } else {
+            Err(InputCause::Differs)
         }
-        Err(_) => Err(FileFault::Differs(from + 1)),
     }
 }
 
-/// The given day.
-pub fn expect_day(line: &[u8], from: usize, day: u32) -> Result<(), FileFault>
-    requires within { from + 6 ≤ length line.now }
-    requires small { from ≤ 106 }
-    ensures { result_map_both (λ _. day) (λ e. e) result ≡ field_reading fault_of (day_given [] (Some day)) from line.now }
-{
-    match read_date(part(line, from, from + 6)) {
-        Ok(read) => {
-            if read == day {
-                Ok(())
-            } else {
-                Err(FileFault::Differs(from + 1))
-            }
-        }
-        Err(_) => Err(FileFault::Differs(from + 1)),
+impl<'a> Fixable for Fixed<'a> {
+    fn stands(&self, bytes: &[u8], _value: &()) -> bool {
+        bytes == self.0
     }
 }
 
-/// The given bytes.
-pub fn expect_bytes<const N: usize>(
-    line: &[u8],
-    from: usize,
-    bytes: [u8; N],
-) -> Result<(), FileFault>
-    requires within { from + N ≤ length line.now }
-    requires small { from ≤ 106 }
-    ensures { result_map_both (λ _. bytes.entry) (λ e. e) result ≡ field_reading fault_of (letters_given N [] (Some bytes.entry)) from line.now }
-{
-    match judge_fixed(part(line, from, from + N), &bytes) {
-        Ok(()) => Ok(()),
-        Err(_) => Err(FileFault::Differs(from + 1)),
+impl<const N: usize> Fixable for AnyBytes<N> {
+    fn stands(&self, bytes: &[u8], value: &[u8; N]) -> bool {
+        bytes == value.as_slice()
     }
 }
 
-/// A sort code, or the given one.
-pub fn read_given_sort_code(
-    line: &[u8],
-    from: usize,
-    given: Option<SortCode>,
-) -> Result<SortCode, FileFault>
-    requires within { from + 6 ≤ length line.now }
-    requires small { from ≤ 106 }
-    ensures { result_map_both (λ s. s.value) (λ e. e) result ≡ field_reading fault_of (digits_given 6 (if_some (λ s. s.value) given)) from line.now }
-{
-    let Some(sort) = given else {
-        return Ok(read_sort_code(line, from)?);
-    };
-    expect_number(line, from, from + 6, sort.number() as u64)?;
-    Ok(sort)
+impl Fixable for Filled {
+    fn stands(&self, bytes: &[u8], value: &[u8; 18]) -> bool {
+        AnyBytes.stands(bytes, value)
+    }
 }
 
-/// An account number, or the given one.
-pub fn read_given_account(
-    line: &[u8],
-    from: usize,
-    given: Option<AccountNumber>,
-) -> Result<AccountNumber, FileFault>
-    requires within { from + 8 ≤ length line.now }
-    requires small { from ≤ 106 }
-    ensures { result_map_both (λ a. a.value) (λ e. e) result ≡ field_reading fault_of (digits_given 8 (if_some (λ a. a.value) given)) from line.now }
-{
-    let Some(account) = given else {
-        return Ok(read_account(line, from)?);
-    };
-    expect_number(line, from, from + 8, account.number() as u64)?;
-    Ok(account)
+impl Fixable for Text {
+    fn stands(&self, bytes: &[u8], value: &[u8; 18]) -> bool {
+        Filled(self.0).stands(bytes, value)
+    }
 }
 
-/// A filled text, or the given one.
-pub fn read_given_filled(
-    line: &[u8],
-    from: usize,
-    service: Service,
-    given: Option<[u8; 18]>,
-) -> Result<[u8; 18], FileFault>
-    requires within { from + 18 ≤ length line.now }
-    requires small { from ≤ 106 }
-    ensures { result ≡ field_reading fault_of (filled_given service given) from line.now }
-{
-    let Some(bytes) = given else {
-        return Ok(read_filled(line, from, service)?);
-    };
-    expect_bytes(line, from, bytes)?;
-    Ok(bytes)
+impl Fixable for Number {
+    fn stands(&self, bytes: &[u8], value: &u64) -> bool {
+        read_digits(bytes) == Ok(*value)
+    }
 }
 
-/// A text, or the given one.
-pub fn read_given_text(
-    line: &[u8],
-    from: usize,
-    service: Service,
-    given: Option<[u8; 18]>,
-) -> Result<[u8; 18], FileFault>
-    requires within { from + 18 ≤ length line.now }
-    requires small { from ≤ 106 }
-    ensures { result ≡ field_reading fault_of (text_given service given) from line.now }
-{
-    let Some(bytes) = given else {
-        return Ok(read_text(line, from, service)?);
-    };
-    expect_bytes(line, from, bytes)?;
-    Ok(bytes)
+impl<const LIMIT: u32> Fixable for BankDigits<LIMIT> {
+    fn stands(&self, bytes: &[u8], value: &BankNumber<LIMIT>) -> bool {
+        read_digits(bytes) == Ok(value.number() as u64)
+    }
+}
+
+impl Fixable for Date {
+    fn stands(&self, bytes: &[u8], value: &u32) -> bool {
+        read_date(bytes) == Ok(*value)
+    }
 }

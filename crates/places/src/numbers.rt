@@ -1,84 +1,176 @@
 //! Fields that say a number, a day or a code.
-ghost use Rattle.std.specs.Prelude.{◌≡◌, ◌+◌, ◌-◌, ◌^◌, ◌<◌, ◌≤◌, [], length, IfOk};
+ghost use Rattle.std.specs.Prelude.{◌≡◌, ◌^◌, ◌≤◌, [], cond, Ok, Err};
+ghost use Rattle.terms.specs.declared.cause.InputCause.TheVariants.{DayNotOpen, DayOutOfRange};
 ghost use Rattle.fields.specs.Words.{amount, code, date, number};
 ghost use Rattle.fields.specs.Judging.{code_text, mark_text, marks};
-ghost use Rattle.lines.specs.Faults.{fault_of, of_file};
-ghost use Rattle.tables.specs.Walks.{field_reading};
 
-use crate::cuts::{at, part};
+use crate::field::Field;
 use days::read_date;
 use digits::read_digits;
-use fields::{AccountNumber, Mark, PaymentCode, SortCode, read_amount, read_mark};
-use lines::FieldFault;
-use terms::Service;
+use fields::{BankNumber, Mark, PaymentCode, read_amount, read_mark};
+use terms::{InputCause, Service};
 
-pub fn read_number(line: &[u8], from: usize, to: usize) -> Result<u64, FieldFault>
-    requires order { from ≤ to }
-    requires few { to - from ≤ 19 }
-    requires within { to ≤ length line.now }
-    requires small { from ≤ 106 }
-    ensures value { of_file (λ v. v) result ≡ field_reading fault_of (number (to - from)) from line.now }
-    ensures bound { IfOk result (λ n. n < 10 ^ (to - from)) }
-{
-    at(from, read_digits(part(line, from, to)))
+/// A number in so many digits.
+#[derive(Clone, Copy)]
+pub struct Number {
+    pub places: usize,
+    ghost few: { places ≤ 19 },
 }
 
-/// A number of at most nine digits.
-pub fn read_small(line: &[u8], from: usize, to: usize) -> Result<u32, FieldFault>
-    requires order { from ≤ to }
-    requires few { to - from ≤ 9 }
-    requires within { to ≤ length line.now }
-    requires small { from ≤ 106 }
-    ensures { of_file (λ v. v) result ≡ field_reading fault_of (number (to - from)) from line.now }
-{
-    let number = read_number(line, from, to)?;
-    Ok(number as u32)
+impl Field for Number {
+    type Said = u64;
+
+    ghost kind = { λ f. number f.places };
+
+    ghost says = { λ _ n. n };
+
+    fn places(&self) -> usize {
+        self.places
+    }
+
+    fn read(&self, bytes: &[u8]) -> Result<u64, InputCause> {
+        read_digits(bytes)
+    }
 }
 
-pub fn read_sort_code(line: &[u8], from: usize) -> Result<SortCode, FieldFault>
-    requires within { from + 6 ≤ length line.now }
-    requires small { from ≤ 106 }
-    ensures { of_file (λ s. s.value) result ≡ field_reading fault_of (number 6) from line.now }
-{
-    at(from, SortCode::read(part(line, from, from + 6)))
+/// A number in at most nine digits, which 32 bits hold.
+// One type with `Number` over both results would have to refuse a number that its places rule out.
+#[derive(Clone, Copy)]
+pub struct SmallNumber {
+    pub places: usize,
+    ghost few: { places ≤ 9 },
 }
 
-pub fn read_account(line: &[u8], from: usize) -> Result<AccountNumber, FieldFault>
-    requires within { from + 8 ≤ length line.now }
-    requires small { from ≤ 106 }
-    ensures { of_file (λ a. a.value) result ≡ field_reading fault_of (number 8) from line.now }
-{
-    at(from, AccountNumber::read(part(line, from, from + 8)))
+impl Field for SmallNumber {
+    type Said = u32;
+
+    ghost kind = { λ f. number f.places };
+
+    ghost says = { λ _ n. n };
+
+    fn places(&self) -> usize {
+        self.places
+    }
+
+    fn read(&self, digits: &[u8]) -> Result<u32, InputCause> {
+        let number = read_digits(digits)?;
+        Ok(number as u32)
+    }
 }
 
-pub fn read_pence(line: &[u8], from: usize, service: Service) -> Result<u64, FieldFault>
-    requires within { from + 11 ≤ length line.now }
-    requires small { from ≤ 106 }
-    ensures { of_file (λ v. v) result ≡ field_reading fault_of (amount service) from line.now }
-{
-    at(from, read_amount(service, part(line, from, from + 11)))
+/// A sort code or an account number, in so many digits.
+#[derive(Clone, Copy)]
+pub struct BankDigits<const LIMIT: u32> {
+    pub places: usize,
+    ghost few: { places ≤ 19 },
+    ghost all: { LIMIT ≡ 10 ^ places },
 }
 
-pub fn read_day(line: &[u8], from: usize) -> Result<u32, FieldFault>
-    requires within { from + 6 ≤ length line.now }
-    requires small { from ≤ 106 }
-    ensures { of_file (λ v. v) result ≡ field_reading fault_of (date []) from line.now }
-{
-    at(from, read_date(part(line, from, from + 6)))
+impl<const LIMIT: u32> Field for BankDigits<LIMIT> {
+    type Said = BankNumber<LIMIT>;
+
+    ghost kind = { λ f. number f.places };
+
+    ghost says = { λ _ n. n.value };
+
+    fn places(&self) -> usize {
+        self.places
+    }
+
+    fn read(&self, bytes: &[u8]) -> Result<BankNumber<LIMIT>, InputCause> {
+        BankNumber::read(bytes)
+    }
 }
 
-pub fn read_code(line: &[u8], from: usize, service: Service) -> Result<PaymentCode, FieldFault>
-    requires within { from + 2 ≤ length line.now }
-    requires small { from ≤ 106 }
-    ensures { of_file code_text result ≡ field_reading fault_of (code service) from line.now }
-{
-    at(from, PaymentCode::read(service, part(line, from, from + 2)))
+/// A day.
+#[derive(Clone, Copy)]
+pub struct Date;
+
+impl Field for Date {
+    type Said = u32;
+
+    ghost kind = { λ _. date [] };
+
+    ghost says = { λ _ d. d };
+
+    fn places(&self) -> usize {
+        6
+    }
+
+    fn read(&self, bytes: &[u8]) -> Result<u32, InputCause> {
+        read_date(bytes)
+    }
 }
 
-pub fn read_mark_at(line: &[u8], from: usize) -> Result<Mark, FieldFault>
-    requires within { from + 6 ≤ length line.now }
-    requires small { from ≤ 106 }
-    ensures { of_file mark_text result ≡ field_reading fault_of marks from line.now }
+/// A day that was read and is judged: in its time, and open.
+pub fn usable_day(day: u32, in_time: bool, open: bool) -> Result<u32, InputCause>
+    ensures { result ≡ cond in_time (cond «open» (Ok day) (Err DayNotOpen)) (Err DayOutOfRange) }
 {
-    at(from, read_mark(part(line, from, from + 6)))
+    if !in_time {
+        return Err(InputCause::DayOutOfRange);
+    }
+    if !open {
+        return Err(InputCause::DayNotOpen);
+    }
+    Ok(day)
+}
+
+/// An amount in pence, within the service's limits.
+#[derive(Clone, Copy)]
+pub struct Amount(pub Service);
+
+impl Field for Amount {
+    type Said = u64;
+
+    ghost kind = { λ f. amount f.0 };
+
+    ghost says = { λ _ n. n };
+
+    fn places(&self) -> usize {
+        11
+    }
+
+    fn read(&self, bytes: &[u8]) -> Result<u64, InputCause> {
+        read_amount(self.0, bytes)
+    }
+}
+
+/// The code of a payment, one of the service's.
+#[derive(Clone, Copy)]
+pub struct Code(pub Service);
+
+impl Field for Code {
+    type Said = PaymentCode;
+
+    ghost kind = { λ f. code f.0 };
+
+    ghost says = { λ _ c. code_text c };
+
+    fn places(&self) -> usize {
+        2
+    }
+
+    fn read(&self, bytes: &[u8]) -> Result<PaymentCode, InputCause> {
+        PaymentCode::read(self.0, bytes)
+    }
+}
+
+/// A mark in the place of a service user number.
+#[derive(Clone, Copy)]
+pub struct OwnerMark;
+
+impl Field for OwnerMark {
+    type Said = Mark;
+
+    ghost kind = { λ _. marks };
+
+    ghost says = { λ _ m. mark_text m };
+
+    fn places(&self) -> usize {
+        6
+    }
+
+    fn read(&self, bytes: &[u8]) -> Result<Mark, InputCause> {
+        read_mark(bytes)
+    }
 }

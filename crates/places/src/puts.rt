@@ -1,4 +1,5 @@
 //! Fields written into a line from the left: what stands before a field stays.
+//! Each call names the place in the line, as the format's tables do, rather than a writer that counts on: a place is then read beside its table.
 ghost use Rattle.std.specs.Prelude.{◌≡◌, ◌+◌, ◌-◌, ◌≤◌, ◌++◌, length};
 ghost use Rattle.fields.specs.Words.{blank};
 ghost use Rattle.tables.specs.Forms.{shown};
@@ -14,14 +15,6 @@ pub fn put_bytes(out: &mut [u8], from: usize, bytes: &[u8])
 {
     let to = from + bytes.len();
     out[from..to].copy_from_slice(bytes);
-}
-
-/// Puts an array of bytes after the first `from`.
-pub fn put_array<const N: usize>(out: &mut [u8], from: usize, bytes: [u8; N])
-    requires { from + N ≤ length out.old }
-    ensures { front (from + N) out.new ≡ front from out.old ++ bytes.entry }
-{
-    put_bytes(out, from, &bytes);
 }
 
 /// Puts a number in digits after the first `from` bytes.
@@ -47,6 +40,7 @@ pub fn put_day(out: &mut [u8], from: usize, day: u32)
     requires { from + 6 ≤ length out.old }
     ensures { front (from + 6) out.new ≡ front from out.old ++ shown dates day }
 {
+    // Reckoned here, since `write_date` refuses a number that is no day, and every number has its six bytes.
     // A run of four years has 1,461 days, and the leap year comes first in it.
     let day = day as u64;
     let year = 4 * day / 1461;

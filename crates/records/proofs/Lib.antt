@@ -1,3 +1,1 @@
 pub mod ContraReading
-pub mod Days
-pub mod Joining

@@ -11,7 +11,7 @@ use Rattle.lines.specs.Places.{Place, stands}
 use Rattle.places.specs.Given.{day_given, digits_given, letters_given, text_given}
 use Rattle.records.specs.declared.contra.Contra.{Contra}
 use Rattle.records.specs.declared.payment.Originator.{Originator}
-use Rattle.records.specs.Payments.{OriginatorSays}
+use Rattle.records.specs.Payments.{OriginatorSays, originator_says}
 
 -- the service's code of a contra stands at 16-17
 abbrev pub contra_shown : Service → List ℕ → Bool
@@ -24,28 +24,23 @@ abbrev pub contra_says : Contra → ContraSays
 contra_says c = record { narrative = c.narrative }
 
 -- the originator's account stands twice, before the code and after it
-abbrev pub account_of : Originator → Table → Table
-account_of o rest = digits_given 6 (Some o.sort_code.value) ∷ digits_given 8 (Some o.account.value) ∷ rest
-
--- the same by plain values
 abbrev pub account_layout : OriginatorSays → Table → Table
 account_layout o rest = digits_given 6 (Some o.sort_code) ∷ digits_given 8 (Some o.account) ∷ rest
 
+-- 18-23 and 24-31 originator's sort code and account, 36-46 total, 47-64 narrative, 65-70 fixed, 83-100 originator's name
 abbrev pub body_layout : Service → OriginatorSays → ℕ → Option (List ℕ) → Table → Table
 body_layout g o total narrative rest =
     account_layout o (spaces 4 ∷ digits_given 11 (Some total) ∷ text_given g narrative ∷ head (codes "CONTRA") ∷ spaces 12 ∷ letters_given 18 [] (Some o.name) ∷ rest)
 
+-- 1-6 and 7-14 originator's sort code and account, 15 fixed, 16-17 code
 abbrev pub contra_layout : Service → OriginatorSays → ℕ → Option (List ℕ) → Table → Table
 contra_layout g o total narrative rest = account_layout o (head (codes "0") ∷ head (contra_code_text g) ∷ body_layout g o total narrative rest)
 
--- 18-23 and 24-31 originator's sort code and account, 36-46 total, 47-64 narrative, 65-70 fixed, 83-100 originator's name
 abbrev pub body_fields : Service → Originator → ℕ → Option (List ℕ) → Table → Table
-body_fields g o total narrative rest =
-    account_of o (spaces 4 ∷ digits_given 11 (Some total) ∷ text_given g narrative ∷ head (codes "CONTRA") ∷ spaces 12 ∷ letters_given 18 [] (Some o.name) ∷ rest)
+body_fields g o total narrative rest = body_layout g (originator_says o) total narrative rest
 
--- 1-6 and 7-14 originator's sort code and account, 15 fixed, 16-17 code
 abbrev pub contra_fields : Service → Originator → ℕ → Option (List ℕ) → Table → Table
-contra_fields g o total narrative rest = account_of o (head (codes "0") ∷ head (contra_code_text g) ∷ body_fields g o total narrative rest)
+contra_fields g o total narrative rest = contra_layout g (originator_says o) total narrative rest
 
 abbrev pub contra_table : Service → Originator → ℕ → Option (List ℕ) → Table
 contra_table g o total narrative = contra_fields g o total narrative []

@@ -10,8 +10,7 @@ use Rattle.fields.specs.Judging.{code_text}
 use Rattle.fields.specs.Words.{amount, code, filled, filled_rules, free_format, head, number, reference}
 use Rattle.lines.specs.Places.{Place, stands}
 use Rattle.places.specs.Given.{day_given, digits_given, filled_given, open_day_rules, usable_rules}
-use Rattle.records.specs.declared.payment.Accounts.{Accounts}
-use Rattle.records.specs.declared.payment.DatedPayment.{DatedPayment}
+use Rattle.records.specs.declared.dated.Dated.{Dated}
 use Rattle.records.specs.declared.payment.DayRule.{DayRule}
 use Rattle.records.specs.declared.payment.DayRule.TheVariants.{Fixed, Range}
 use Rattle.records.specs.declared.payment.Originator.{Originator}
@@ -54,8 +53,8 @@ payment_says p =
       originator = originator_says p.originator;
     }
 
-abbrev pub dated_says : DatedPayment → DatedSays
-dated_says d = record { payment = payment_says d.payment; day = d.day }
+abbrev pub dated_says : Dated Payment ℕ → DatedSays
+dated_says d = record { payment = payment_says d.undated; day = d.day }
 
 -- Fields that earlier payments fix.
 
@@ -79,7 +78,7 @@ abbrev pub range_rules : ℕ → ℕ → Bool → List (Rule ℕ)
 range_rules first last usable = open_day_rules (in_range first last) usable
 
 abbrev pub ranged_day : ℕ → ℕ → Bool → Kind
-ranged_day first last usable = day_given (range_rules first last usable) None
+ranged_day first last usable = day_in_range first last (λ _. usable)
 
 abbrev pub day_rules : DayRule → List (Rule ℕ)
 day_rules (Fixed day) = []
@@ -92,20 +91,21 @@ fixed_day (Range first last usable) = None
 abbrev pub record_day : DayRule → Kind
 record_day d = day_given (day_rules d) (fixed_day d)
 
+-- By the kinds of field that earlier payments may fix.
+
 -- 1-6 sort code, 7-14 account, 15 fixed, 16-17 code, 18-23 and 24-31 originator's sort code and account
-abbrev pub account_fields : Service → Option Originator → Table → Table
-account_fields g o rest = number 6 ∷ number 8 ∷ head (codes "0") ∷ code g ∷ fixed_sort_code o ∷ fixed_account o ∷ rest
-
--- 32-35 free format, 36-46 amount, 47-64 originator's name, 65-82 reference, 83-100 name
-abbrev pub detail_fields : Service → Option Originator → Table → Table
-detail_fields g o rest = free_format g ∷ amount g ∷ fixed_name g o ∷ reference g ∷ filled g ∷ rest
-
--- the same by the kinds of field that earlier lines may fix
 abbrev pub account_layout : Service → Kind → Kind → Table → Table
 account_layout g from_sort_code from_account rest = number 6 ∷ number 8 ∷ head (codes "0") ∷ code g ∷ from_sort_code ∷ from_account ∷ rest
 
+-- 32-35 free format, 36-46 amount, 47-64 originator's name, 65-82 reference, 83-100 name
 abbrev pub detail_layout : Service → Kind → Table → Table
 detail_layout g from_name rest = free_format g ∷ amount g ∷ from_name ∷ reference g ∷ filled g ∷ rest
+
+abbrev pub account_fields : Service → Option Originator → Table → Table
+account_fields g o rest = account_layout g (fixed_sort_code o) (fixed_account o) rest
+
+abbrev pub detail_fields : Service → Option Originator → Table → Table
+detail_fields g o rest = detail_layout g (fixed_name g o) rest
 
 -- by the originator that is fixed, in plain values
 abbrev pub payment_layout : Service → Option OriginatorSays → Table → Table
@@ -137,10 +137,6 @@ payment_of s a c from_s from_a f n from_name r m =
       name = m;
       originator = record { sort_code = from_s; account = from_a; name = from_name };
     }
-
--- after the values of places 1-31
-abbrev pub with_accounts : Accounts → List ℕ → ℕ → List ℕ → List ℕ → List ℕ → PaymentSays
-with_accounts x = payment_of x.sort_code.value x.account.value (code_text x.code) x.from_sort_code.value x.from_account.value
 
 abbrev pub payment_place : Service → Option Originator → Place PaymentSays
 payment_place g o = stands (payment_table g o) payment_of

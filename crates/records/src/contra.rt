@@ -1,4 +1,4 @@
-use crate::Originator;
+use crate::{Dated, Originator};
 use terms::Service;
 
 /// What a contra record says that its batch does not.
@@ -17,11 +17,4 @@ pub struct ContraContext {
 }
 
 /// What a contra record of a multi-day file is judged by: the batch's day too.
-#[derive(Clone, Copy)]
-pub struct DatedContraContext {
-    pub service: Service,
-    pub originator: Originator,
-    pub total: u64,
-    pub narrative: Option<[u8; 18]>,
-    pub day: u32,
-}
+pub type DatedContraContext = Dated<ContraContext, u32>;

@@ -1,94 +1,167 @@
-//! Fields of a payment that earlier payments may fix.
-ghost use Rattle.std.specs.Prelude.{◌≡◌, ◌+◌, ◌≤◌, length};
-ghost use Rattle.std.specs.Result.{result_map_both};
-ghost use Rattle.lines.specs.Faults.{fault_of};
-ghost use Rattle.tables.specs.Walks.{field_reading};
-ghost use Rattle.records.specs.Payments.{ranged_day, record_day, fixed_account, fixed_name, fixed_sort_code};
+//! Fields of a record that earlier records may fix.
+//! The originator's three parts and the narrative ask alike whether one is fixed. One wrapper over any field and an optional value was tried: the table's kind
+//! is then stuck at `option_map` of the value, which proofs of whole lines cannot see through.
+ghost use Rattle.places.specs.Given.{text_given};
+ghost use Rattle.std.specs.Prelude.{◌≡◌};
+ghost use Rattle.records.specs.Payments.{fixed_account, in_range, fixed_name, fixed_sort_code, ranged_day, record_day};
 
 use crate::{DayRule, Originator};
 use fields::{AccountNumber, SortCode};
-use lines::FileFault;
-use places::{expect_day, read_day, read_given_account, read_given_filled, read_given_sort_code};
-use terms::Service;
+use places::{BankDigits, Date, Field, Filled, Given, Text, usable_day};
+use terms::{InputCause, Service};
 
-pub(crate) fn read_originator_sort_code(
-    line: &[u8],
-    from: usize,
-    originator: &Option<Originator>,
-) -> Result<SortCode, FileFault>
-    requires within { from + 6 ≤ length line.now }
-    requires small { from ≤ 106 }
-    ensures { result_map_both (λ s. s.value) (λ e. e) result ≡ field_reading fault_of (fixed_sort_code originator.now) from line.now }
-{
-    match originator {
-        Some(fixed) => read_given_sort_code(line, from, Some(fixed.sort_code)),
-        None => read_given_sort_code(line, from, None),
+/// The originator's sort code.
+#[derive(Clone, Copy)]
+pub(crate) struct OriginatorSortCode(pub(crate) Option<Originator>);
+
+impl Field for OriginatorSortCode {
+    type Said = SortCode;
+
+    ghost kind = { λ f. fixed_sort_code f.0 };
+
+    ghost says = { λ _ n. n.value };
+
+    fn places(&self) -> usize {
+        6
+    }
+
+    fn read(&self, bytes: &[u8]) -> Result<SortCode, InputCause> {
+        let digits = BankDigits { places: 6 };
+        match &self.0 {
+            Some(fixed) => Given(digits, fixed.sort_code).read(bytes),
+            None => digits.read(bytes),
+        }
     }
 }
 
-pub(crate) fn read_originator_account(
-    line: &[u8],
-    from: usize,
-    originator: &Option<Originator>,
-) -> Result<AccountNumber, FileFault>
-    requires within { from + 8 ≤ length line.now }
-    requires small { from ≤ 106 }
-    ensures { result_map_both (λ a. a.value) (λ e. e) result ≡ field_reading fault_of (fixed_account originator.now) from line.now }
-{
-    match originator {
-        Some(fixed) => read_given_account(line, from, Some(fixed.account)),
-        None => read_given_account(line, from, None),
+/// The originator's account number.
+#[derive(Clone, Copy)]
+pub(crate) struct OriginatorAccount(pub(crate) Option<Originator>);
+
+impl Field for OriginatorAccount {
+    type Said = AccountNumber;
+
+    ghost kind = { λ f. fixed_account f.0 };
+
+    ghost says = { λ _ n. n.value };
+
+    fn places(&self) -> usize {
+        8
+    }
+
+    fn read(&self, bytes: &[u8]) -> Result<AccountNumber, InputCause> {
+        let digits = BankDigits { places: 8 };
+        match &self.0 {
+            Some(fixed) => Given(digits, fixed.account).read(bytes),
+            None => digits.read(bytes),
+        }
     }
 }
 
-pub(crate) fn read_originator_name(
-    line: &[u8],
-    from: usize,
-    service: Service,
-    originator: &Option<Originator>,
-) -> Result<[u8; 18], FileFault>
-    requires within { from + 18 ≤ length line.now }
-    requires small { from ≤ 106 }
-    ensures { result ≡ field_reading fault_of (fixed_name service originator.now) from line.now }
-{
-    match originator {
-        Some(fixed) => read_given_filled(line, from, service, Some(fixed.name)),
-        None => read_given_filled(line, from, service, None),
+/// The originator's name.
+#[derive(Clone, Copy)]
+pub(crate) struct OriginatorName {
+    pub(crate) service: Service,
+    pub(crate) originator: Option<Originator>,
+}
+
+impl Field for OriginatorName {
+    type Said = [u8; 18];
+
+    ghost kind = { λ f. fixed_name f.service f.originator };
+
+    ghost says = { λ _ v. v };
+
+    fn places(&self) -> usize {
+        18
+    }
+
+    fn read(&self, bytes: &[u8]) -> Result<[u8; 18], InputCause> {
+        let text = Filled(self.service);
+        match &self.originator {
+            Some(fixed) => Given(text, fixed.name).read(bytes),
+            None => text.read(bytes),
+        }
+    }
+}
+
+/// The narrative of a contra, which an earlier contra may fix.
+#[derive(Clone, Copy)]
+pub(crate) struct Narrative {
+    pub(crate) service: Service,
+    pub(crate) narrative: Option<[u8; 18]>,
+}
+
+impl Field for Narrative {
+    type Said = [u8; 18];
+
+    ghost kind = { λ f. text_given f.service f.narrative };
+
+    ghost says = { λ _ v. v };
+
+    fn places(&self) -> usize {
+        18
+    }
+
+    fn read(&self, bytes: &[u8]) -> Result<[u8; 18], InputCause> {
+        let text = Text(self.service);
+        match &self.narrative {
+            Some(fixed) => Given(text, *fixed).read(bytes),
+            None => text.read(bytes),
+        }
     }
 }
 
 /// The day of a payment: the one that is fixed, or one of a range that is open.
-pub(crate) fn read_record_day(line: &[u8], from: usize, rule: &DayRule) -> Result<u32, FileFault>
-    requires within { from + 6 ≤ length line.now }
-    requires small { from ≤ 106 }
-    ensures { result ≡ field_reading fault_of (record_day rule.now) from line.now }
-{
-    match *rule {
-        DayRule::Fixed(day) => {
-            expect_day(line, from, day)?;
-            Ok(day)
+#[derive(Clone, Copy)]
+pub(crate) struct RecordDay(pub(crate) DayRule);
+
+impl Field for RecordDay {
+    type Said = u32;
+
+    ghost kind = { λ f. record_day f.0 };
+
+    ghost says = { λ _ d. d };
+
+    fn places(&self) -> usize {
+        6
+    }
+
+    fn read(&self, bytes: &[u8]) -> Result<u32, InputCause> {
+        match self.0 {
+            DayRule::Fixed(day) => Given(Date, day).read(bytes),
+            DayRule::Range { first, last, open } => RangedDay { first, last, open }.read(bytes),
         }
-        DayRule::Range { first, last, open } => read_ranged_day(line, from, first, last, open),
     }
 }
 
-fn read_ranged_day(
-    line: &[u8],
-    from: usize,
+/// A day from the first to the last, which is open: the second form of a `DayRule`, as a field of its own.
+#[derive(Clone, Copy)]
+struct RangedDay {
     first: u32,
     last: u32,
     open: bool,
-) -> Result<u32, FileFault>
-    requires within { from + 6 ≤ length line.now }
-    requires small { from ≤ 106 }
-    ensures { result ≡ field_reading fault_of (ranged_day first last «open») from line.now }
+}
+
+impl Field for RangedDay {
+    type Said = u32;
+
+    ghost kind = { λ f. ranged_day f.first f.last f.«open» };
+
+    ghost says = { λ _ d. d };
+
+    fn places(&self) -> usize {
+        6
+    }
+
+    fn read(&self, bytes: &[u8]) -> Result<u32, InputCause> {
+        let day = Date.read(bytes)?;
+        usable_day(day, is_between(self.first, self.last, day), self.open)
+    }
+}
+
+fn is_between(first: u32, last: u32, day: u32) -> bool
+    ensures { result ≡ in_range first last day }
 {
-    let day = read_day(line, from)?;
-    if day < first || last < day {
-        return Err(FileFault::DayOutOfRange(from + 1));
-    }
-    if !open {
-        return Err(FileFault::DayNotOpen(from + 1));
-    }
-    Ok(day)
+    first <= day && day <= last
 }

@@ -1,9 +1,11 @@
+use crate::Dated;
 use fields::{AccountNumber, PaymentCode, SortCode};
 use terms::Service;
 
 /// Whose account the payments of a file are set against.
 #[derive(Clone, Copy)]
 pub struct Originator {
+    // Sort code and account are two fields of the format, each judged and refused by itself, so they are two here and wherever they stand together.
     pub sort_code: SortCode,
     pub account: AccountNumber,
     pub name: [u8; 18],
@@ -24,11 +26,7 @@ pub struct Payment {
 }
 
 /// What a payment record of a multi-day file says.
-#[derive(Clone, Copy)]
-pub struct DatedPayment {
-    pub payment: Payment,
-    pub day: u32,
-}
+pub type DatedPayment = Dated<Payment, u32>;
 
 /// What a payment record of a multi-day file may have as its day.
 #[derive(Clone, Copy)]
@@ -36,6 +34,7 @@ pub enum DayRule {
     /// The day that the batch's first payment fixes.
     Fixed(u32),
     /// In a batch's first payment: a day in the range, of which the caller has looked up whether it is open.
+    // The answer and no day with it: the day stands in the line, which is judged after this is made.
     Range { first: u32, last: u32, open: bool },
 }
 
@@ -47,19 +46,4 @@ pub struct PaymentContext {
 }
 
 /// What a payment record of a multi-day file is judged by.
-#[derive(Clone, Copy)]
-pub struct DatedPaymentContext {
-    pub service: Service,
-    pub originator: Option<Originator>,
-    pub day: DayRule,
-}
-
-/// What places 1-31 of a payment record say.
-#[derive(Clone, Copy)]
-pub(crate) struct Accounts {
-    pub sort_code: SortCode,
-    pub account: AccountNumber,
-    pub code: PaymentCode,
-    pub from_sort_code: SortCode,
-    pub from_account: AccountNumber,
-}
+pub type DatedPaymentContext = Dated<PaymentContext, DayRule>;

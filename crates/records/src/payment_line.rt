@@ -1,25 +1,19 @@
-ghost use Rattle.std.specs.Prelude.{◌≡◌, ◌≤◌, [], length};
+ghost use Rattle.std.specs.Prelude.{◌≡◌, ◌≤◌, length};
 ghost use Rattle.std.specs.Result.{result_map_both};
-ghost use Rattle.lines.specs.Faults.{fault_of};
 ghost use Rattle.lines.specs.Places.{place_reading};
 ghost use Rattle.places.specs.Fronts.{front};
-ghost use Rattle.tables.specs.Walks.{fields_reading};
-ghost use Rattle.records.specs.Payments.{DatedSays, PaymentSays, DatedFits, dated_line, dated_place, dated_says, detail_fields, PaymentFits, payment_line, payment_place, payment_says, with_accounts};
+ghost use Rattle.records.specs.Payments.{DatedSays, PaymentSays, DatedFits, dated_line, dated_place, dated_says, PaymentFits, payment_line, payment_place, payment_says};
 ghost use Rattle.records.specs.PaymentLaws.{payment_unbroken, payment_back, dated_unbroken, dated_back};
 ghost use Rattle.std.proofs.Common.{rules};
 
 use crate::account::put_account;
-use crate::fixing::{
-    read_originator_account, read_originator_name, read_originator_sort_code, read_record_day,
-};
-use crate::payment::Accounts;
-use crate::{DatedPayment, DatedPaymentContext, Originator, Payment, PaymentContext};
+use crate::fixing::{OriginatorAccount, OriginatorName, OriginatorSortCode, RecordDay};
+use crate::{Dated, DatedPayment, DatedPaymentContext, Originator, Payment, PaymentContext};
 use lines::{FileFault, Line};
 use places::{
-    expect, put_bytes, put_day, put_number, read_account, read_code, read_filled, read_free_format,
-    read_pence, read_reference, read_sort_code,
+    Amount, BankDigits, Code, Field, Filled, Fixed, FreeFormat, Reference, put_bytes, put_day,
+    put_number,
 };
-use terms::Service;
 
 /// The kind of line that a payment of a single-day file has.
 pub struct PaymentRecord;
@@ -38,7 +32,7 @@ impl Line for PaymentRecord {
 
     ghost says = { payment_says };
 
-    ghost long = { 100 };
+    ghost LENGTH = { 100 };
 
     ghost place = { λ c _. payment_place c.service c.originator };
 
@@ -52,12 +46,8 @@ impl Line for PaymentRecord {
 
     ghost back = { λ c v h. payment_back c.service c.originator (payment_says v) h };
 
-    fn width() -> usize {
-        Self::LENGTH
-    }
-
     fn read(line: &[u8], context: &PaymentContext) -> Result<Payment, FileFault> {
-        read_payment(line, context.service, &context.originator)
+        read_payment(line, context)
     }
 
     fn write(value: &Payment, _context: &PaymentContext, out: &mut [u8]) {
@@ -65,6 +55,7 @@ impl Line for PaymentRecord {
     }
 }
 
+// Not one generic kind of line with `DatedContraRecord`: the day of a payment is judged by its own rule, and the laws are those of two tables.
 impl Line for DatedPaymentRecord {
     type Context = DatedPaymentContext;
 
@@ -76,87 +67,63 @@ impl Line for DatedPaymentRecord {
 
     ghost says = { dated_says };
 
-    ghost long = { 106 };
+    ghost LENGTH = { 106 };
 
-    ghost place = { λ c _. dated_place c.service c.originator c.day };
+    ghost place = { λ c _. dated_place c.undated.service c.undated.originator c.day };
 
     ghost image = { λ _ v. dated_line (dated_says v) };
 
-    ghost fits = { λ c v. DatedFits c.service c.originator c.day (dated_says v) };
+    ghost fits = { λ c v. DatedFits c.undated.service c.undated.originator c.day (dated_says v) };
 
     ghost tiled = { Prim.search rules };
 
-    ghost unbroken = { λ c v h. dated_unbroken c.service c.originator c.day (dated_says v) h };
+    ghost unbroken = { λ c v h. dated_unbroken c.undated.service c.undated.originator c.day (dated_says v) h };
 
-    ghost back = { λ c v h. dated_back c.service c.originator c.day (dated_says v) h };
-
-    fn width() -> usize {
-        Self::LENGTH
-    }
+    ghost back = { λ c v h. dated_back c.undated.service c.undated.originator c.day (dated_says v) h };
 
     fn read(line: &[u8], context: &DatedPaymentContext) -> Result<DatedPayment, FileFault> {
-        let payment = read_payment(line, context.service, &context.originator)?;
-        let day = read_record_day(line, 100, &context.day)?;
-        Ok(DatedPayment { payment, day })
+        let undated = read_payment(line, &context.undated)?;
+        let day = RecordDay(context.day).at(line, 100)?;
+        Ok(Dated { undated, day })
     }
 
     fn write(value: &DatedPayment, _context: &DatedPaymentContext, out: &mut [u8]) {
-        write_payment(&value.payment, out);
+        write_payment(&value.undated, out);
         put_day(out, 100, value.day);
     }
 }
 
-/// Places 1-100, which both kinds of line share.
-fn read_payment(
-    line: &[u8],
-    service: Service,
-    originator: &Option<Originator>,
-) -> Result<Payment, FileFault>
+/// Places 1-100, which both kinds of line share. A type for a line of at least 100 bytes would be made and taken apart in each `Line::read` and `Line::write`.
+fn read_payment(line: &[u8], context: &PaymentContext) -> Result<Payment, FileFault>
     requires { 100 ≤ length line.now }
-    ensures { result_map_both payment_says (λ e. e) result ≡ place_reading (payment_place service originator.now) line.now }
+    ensures { result_map_both payment_says (λ e. e) result ≡ place_reading (payment_place context.now.service context.now.originator) line.now }
 {
-    let sort_code = read_sort_code(line, 0)?;
-    let account = read_account(line, 6)?;
-    expect(line, 14, b"0")?;
-    let code = read_code(line, 15, service)?;
-    let from_sort_code = read_originator_sort_code(line, 17, originator)?;
-    let from_account = read_originator_account(line, 23, originator)?;
-    let accounts = Accounts {
+    let sort_code = BankDigits { places: 6 }.at(line, 0)?;
+    let account = BankDigits { places: 8 }.at(line, 6)?;
+    Fixed(b"0").at(line, 14)?;
+    let code = Code(context.service).at(line, 15)?;
+    let from_sort_code = OriginatorSortCode(context.originator).at(line, 17)?;
+    let from_account = OriginatorAccount(context.originator).at(line, 23)?;
+    let free_format = FreeFormat(context.service).at(line, 31)?;
+    let amount = Amount(context.service).at(line, 35)?;
+    let from_name = OriginatorName {
+        service: context.service,
+        originator: context.originator,
+    }
+    .at(line, 46)?;
+    let reference = Reference(context.service).at(line, 64)?;
+    let name = Filled(context.service).at(line, 82)?;
+    Ok(Payment {
         sort_code,
         account,
         code,
-        from_sort_code,
-        from_account,
-    };
-    read_details(line, service, originator, &accounts)
-}
-
-/// Places 32-100, after what stands before them.
-fn read_details(
-    line: &[u8],
-    service: Service,
-    originator: &Option<Originator>,
-    accounts: &Accounts,
-) -> Result<Payment, FileFault>
-    requires { 100 ≤ length line.now }
-    ensures { result_map_both payment_says (λ e. e) result ≡ fields_reading fault_of PaymentSays (detail_fields service originator.now []) (with_accounts accounts.now) 31 line.now }
-{
-    let free_format = read_free_format(line, 31, service)?;
-    let amount = read_pence(line, 35, service)?;
-    let from_name = read_originator_name(line, 46, service, originator)?;
-    let reference = read_reference(line, 64, service)?;
-    let name = read_filled(line, 82, service)?;
-    Ok(Payment {
-        sort_code: accounts.sort_code,
-        account: accounts.account,
-        code: accounts.code,
         free_format,
         amount,
         reference,
         name,
         originator: Originator {
-            sort_code: accounts.from_sort_code,
-            account: accounts.from_account,
+            sort_code: from_sort_code,
+            account: from_account,
             name: from_name,
         },
     })

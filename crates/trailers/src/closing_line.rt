@@ -6,10 +6,7 @@ ghost use Rattle.std.proofs.Common.{rules};
 use crate::Utl1Context;
 use labels::{Hdr2, record_length};
 use lines::{FileFault, Line};
-use places::{
-    expect, expect_again, expect_number, expect_spaces, expect5, put_array, put_bytes, put_number,
-    put_spaces,
-};
+use places::{AnyBytes, Field, Fixed, Given, Number, Spaces, put_bytes, put_number, put_spaces};
 
 /// The kind of line that repeats HDR2.
 pub struct Eof2Label;
@@ -25,7 +22,7 @@ impl Line for Eof2Label {
 
     ghost says = { λ v. v };
 
-    ghost long = { 80 };
+    ghost LENGTH = { 80 };
 
     ghost place = { λ h l. eof2_place h };
 
@@ -39,24 +36,20 @@ impl Line for Eof2Label {
 
     ghost back = { λ h v a. eof2_back h };
 
-    fn width() -> usize {
-        Self::LENGTH
-    }
-
     fn read(line: &[u8], context: &Hdr2) -> Result<(), FileFault> {
-        expect(line, 0, b"EOF2")?;
-        expect_again(line, 4, b"F02000")?;
-        expect5(line, 10, record_length(context.multi))?;
-        expect_again(line, 15, b"                                   ")?;
-        expect_again(line, 50, b"00")?;
-        expect_again(line, 52, b"                            ")?;
+        Fixed(b"EOF2").at(line, 0)?;
+        Given(Fixed(b"F02000"), ()).at(line, 4)?;
+        Given(AnyBytes, record_length(context.multi)).at(line, 10)?;
+        Given(Fixed(b"                                   "), ()).at(line, 15)?;
+        Given(Fixed(b"00"), ()).at(line, 50)?;
+        Given(Fixed(b"                            "), ()).at(line, 52)?;
         Ok(())
     }
 
     fn write(_value: &(), context: &Hdr2, out: &mut [u8]) {
         put_bytes(out, 0, b"EOF2");
         put_bytes(out, 4, b"F02000");
-        put_array(out, 10, record_length(context.multi));
+        put_bytes(out, 10, &record_length(context.multi));
         put_spaces(out, 15, 50);
         put_bytes(out, 50, b"00");
         put_spaces(out, 52, 80);
@@ -77,7 +70,7 @@ impl Line for Utl1Label {
 
     ghost says = { λ v. v };
 
-    ghost long = { 80 };
+    ghost LENGTH = { 80 };
 
     ghost place = { λ k l. utl1_place k };
 
@@ -91,17 +84,15 @@ impl Line for Utl1Label {
 
     ghost back = { λ k v a. utl1_back k a };
 
-    fn width() -> usize {
-        Self::LENGTH
-    }
-
     fn read(line: &[u8], context: &Utl1Context) -> Result<(), FileFault> {
-        expect(line, 0, b"UTL1")?;
-        expect_number(line, 4, 17, context.debit_total)?;
-        expect_number(line, 17, 30, context.credit_total)?;
-        expect_number(line, 30, 37, context.debit_count)?;
-        expect_number(line, 37, 44, context.credit_count)?;
-        expect_spaces(line, 44, 80)?;
+        let total = Number { places: 13 };
+        let count = Number { places: 7 };
+        Fixed(b"UTL1").at(line, 0)?;
+        Given(total, context.debit_total).at(line, 4)?;
+        Given(total, context.credit_total).at(line, 17)?;
+        Given(count, context.debit_count).at(line, 30)?;
+        Given(count, context.credit_count).at(line, 37)?;
+        Spaces(36).at(line, 44)?;
         Ok(())
     }
 

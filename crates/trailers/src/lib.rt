@@ -1,5 +1,5 @@
 //! The labels after the batches of a file: EOF1, EOF2 and UTL1. They repeat what the labels before the batches say, and add up the file.
-#![tactic(auto)]
+#![tactic(auto, using(places::proofs::Fronting::front_none, places::proofs::Fronting::front_all))]
 
 mod closing;
 mod closing_line;

@@ -4,16 +4,14 @@ use Rattle.std.proofs.lemmas.Result.{err_from_is_err_and}
 use Rattle.tables.proofs.Fields.{past, stops}
 use Rattle.labels.proofs.user_line.Uhl1LabelLine.read.Goals as goal
 
-pub returns-in_err-expect_spaces-3 : goal.returns-in_err-expect_spaces-3
-returns-in_err-expect_spaces-3 c =
-    let p = err_from_is_err_and c.from_residual-in_err-expect_spaces-3.result c.from_residual-in_err-expect_spaces-3.ensures.1 in
+pub returns-in_err-at-9 : goal.returns-in_err-at-9
+returns-in_err-at-9 c =
+    let p = err_from_is_err_and c.from_residual-in_err-at-9.result c.from_residual-in_err-at-9.ensures.1 in
     rw (p.1, p.2)
-    (past _ c.in_ok-expect.ensures (past _ c.in_ok-processing.ensures (past _ c.in_ok-expect-2.ensures (past _ c.in_ok-expect_spaces.ensures
-    (past _ c.in_ok-expect-3.ensures (past _ c.in_ok-expect_work_code.ensures (past _ c.in_ok-number.ensures (past _ c.in_ok-expect_spaces-2.ensures
-    (past _ c.in_ok-read_free3.ensures (past _ c.in_ok-read_spare4.ensures (stops _ c.in_err-expect_spaces-3.ensures)))))))))))
+    (past _ c.in_ok-at.ensures (past _ c.in_ok-processing.ensures (past _ c.in_ok-at-2.ensures (past _ c.in_ok-at-3.ensures (past _ c.in_ok-at-4.ensures (past _ c.in_ok-at-5.ensures
+    (past _ c.in_ok-number.ensures (past _ c.in_ok-at-6.ensures (past _ c.in_ok-at-7.ensures (past _ c.in_ok-at-8.ensures (stops _ c.in_err-at-9.ensures)))))))))))
 
 pub returns : goal.returns
 returns c =
-    past _ c.in_ok-expect.ensures (past _ c.in_ok-processing.ensures (past _ c.in_ok-expect-2.ensures (past _ c.in_ok-expect_spaces.ensures
-    (past _ c.in_ok-expect-3.ensures (past _ c.in_ok-expect_work_code.ensures (past _ c.in_ok-number.ensures (past _ c.in_ok-expect_spaces-2.ensures
-    (past _ c.in_ok-read_free3.ensures (past _ c.in_ok-read_spare4.ensures (past _ c.in_ok-expect_spaces-3.ensures refl))))))))))
+    past _ c.in_ok-at.ensures (past _ c.in_ok-processing.ensures (past _ c.in_ok-at-2.ensures (past _ c.in_ok-at-3.ensures (past _ c.in_ok-at-4.ensures (past _ c.in_ok-at-5.ensures
+    (past _ c.in_ok-number.ensures (past _ c.in_ok-at-6.ensures (past _ c.in_ok-at-7.ensures (past _ c.in_ok-at-8.ensures (past _ c.in_ok-at-9.ensures refl))))))))))

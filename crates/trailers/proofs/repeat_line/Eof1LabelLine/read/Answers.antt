@@ -4,54 +4,50 @@ use Rattle.std.proofs.lemmas.Result.{err_from_is_err_and}
 use Rattle.tables.proofs.Fields.{past, stops}
 use Rattle.trailers.proofs.repeat_line.Eof1LabelLine.read.Goals as goal
 
-pub returns-in_err-expect_day : goal.returns-in_err-expect_day
-returns-in_err-expect_day c =
-    let p = err_from_is_err_and c.from_residual-in_err-expect_day.result c.from_residual-in_err-expect_day.ensures.1 in
+pub returns-in_err-at-12 : goal.returns-in_err-at-12
+returns-in_err-at-12 c =
+    let p = err_from_is_err_and c.from_residual-in_err-at-12.result c.from_residual-in_err-at-12.ensures.1 in
     rw (p.1, p.2)
-    (past _ c.in_ok-expect.ensures (past _ c.in_ok-expect_again.ensures (past _ c.in_ok-expect6.ensures (past _ c.in_ok-expect_again-2.ensures
-    (past _ c.in_ok-expect_again-3.ensures (past _ c.in_ok-expect1.ensures (past _ c.in_ok-expect6-2.ensures (past _ c.in_ok-expect6-3.ensures
-    (past _ c.in_ok-expect_again-4.ensures (past _ c.in_ok-expect4.ensures (past _ c.in_ok-expect2.ensures (stops _ c.in_err-expect_day.ensures))))))))))))
+    (past _ c.in_ok-at.ensures (past _ c.in_ok-at-2.ensures (past _ c.in_ok-at-3.ensures (past _ c.in_ok-at-4.ensures (past _ c.in_ok-at-5.ensures
+    (past _ c.in_ok-at-6.ensures (past _ c.in_ok-at-7.ensures (past _ c.in_ok-at-8.ensures (past _ c.in_ok-at-9.ensures (past _ c.in_ok-at-10.ensures
+    (past _ c.in_ok-at-11.ensures (stops _ c.in_err-at-12.ensures))))))))))))
 
-pub returns-in_err-expect_day-2 : goal.returns-in_err-expect_day-2
-returns-in_err-expect_day-2 c =
-    let p = err_from_is_err_and c.from_residual-in_err-expect_day-2.result c.from_residual-in_err-expect_day-2.ensures.1 in
+pub returns-in_err-at-13 : goal.returns-in_err-at-13
+returns-in_err-at-13 c =
+    let p = err_from_is_err_and c.from_residual-in_err-at-13.result c.from_residual-in_err-at-13.ensures.1 in
     rw (p.1, p.2)
-    (past _ c.in_ok-expect.ensures (past _ c.in_ok-expect_again.ensures (past _ c.in_ok-expect6.ensures (past _ c.in_ok-expect_again-2.ensures
-    (past _ c.in_ok-expect_again-3.ensures (past _ c.in_ok-expect1.ensures (past _ c.in_ok-expect6-2.ensures (past _ c.in_ok-expect6-3.ensures
-    (past _ c.in_ok-expect_again-4.ensures (past _ c.in_ok-expect4.ensures (past _ c.in_ok-expect2.ensures
-    (past _ c.in_ok-expect_day.ensures (stops _ c.in_err-expect_day-2.ensures)))))))))))))
+    (past _ c.in_ok-at.ensures (past _ c.in_ok-at-2.ensures (past _ c.in_ok-at-3.ensures (past _ c.in_ok-at-4.ensures (past _ c.in_ok-at-5.ensures
+    (past _ c.in_ok-at-6.ensures (past _ c.in_ok-at-7.ensures (past _ c.in_ok-at-8.ensures (past _ c.in_ok-at-9.ensures (past _ c.in_ok-at-10.ensures
+    (past _ c.in_ok-at-11.ensures (past _ c.in_ok-at-12.ensures (stops _ c.in_err-at-13.ensures)))))))))))))
 
-pub returns-in_err-expect1-2 : goal.returns-in_err-expect1-2
-returns-in_err-expect1-2 c =
-    let p = err_from_is_err_and c.from_residual-in_err-expect1-2.result c.from_residual-in_err-expect1-2.ensures.1 in
+pub returns-in_err-at-14 : goal.returns-in_err-at-14
+returns-in_err-at-14 c =
+    let p = err_from_is_err_and c.from_residual-in_err-at-14.result c.from_residual-in_err-at-14.ensures.1 in
     rw (p.1, p.2)
-    (past _ c.in_ok-expect.ensures (past _ c.in_ok-expect_again.ensures (past _ c.in_ok-expect6.ensures (past _ c.in_ok-expect_again-2.ensures
-    (past _ c.in_ok-expect_again-3.ensures (past _ c.in_ok-expect1.ensures (past _ c.in_ok-expect6-2.ensures (past _ c.in_ok-expect6-3.ensures
-    (past _ c.in_ok-expect_again-4.ensures (past _ c.in_ok-expect4.ensures (past _ c.in_ok-expect2.ensures (past _ c.in_ok-expect_day.ensures
-    (past _ c.in_ok-expect_day-2.ensures (stops _ c.in_err-expect1-2.ensures))))))))))))))
+    (past _ c.in_ok-at.ensures (past _ c.in_ok-at-2.ensures (past _ c.in_ok-at-3.ensures (past _ c.in_ok-at-4.ensures (past _ c.in_ok-at-5.ensures
+    (past _ c.in_ok-at-6.ensures (past _ c.in_ok-at-7.ensures (past _ c.in_ok-at-8.ensures (past _ c.in_ok-at-9.ensures (past _ c.in_ok-at-10.ensures
+    (past _ c.in_ok-at-11.ensures (past _ c.in_ok-at-12.ensures (past _ c.in_ok-at-13.ensures (stops _ c.in_err-at-14.ensures))))))))))))))
 
-pub returns-in_err-expect_spaces : goal.returns-in_err-expect_spaces
-returns-in_err-expect_spaces c =
-    let p = err_from_is_err_and c.from_residual-in_err-expect_spaces.result c.from_residual-in_err-expect_spaces.ensures.1 in
+pub returns-in_err-at-15 : goal.returns-in_err-at-15
+returns-in_err-at-15 c =
+    let p = err_from_is_err_and c.from_residual-in_err-at-15.result c.from_residual-in_err-at-15.ensures.1 in
     rw (p.1, p.2)
-    (past _ c.in_ok-expect.ensures (past _ c.in_ok-expect_again.ensures (past _ c.in_ok-expect6.ensures (past _ c.in_ok-expect_again-2.ensures
-    (past _ c.in_ok-expect_again-3.ensures (past _ c.in_ok-expect1.ensures (past _ c.in_ok-expect6-2.ensures (past _ c.in_ok-expect6-3.ensures
-    (past _ c.in_ok-expect_again-4.ensures (past _ c.in_ok-expect4.ensures (past _ c.in_ok-expect2.ensures (past _ c.in_ok-expect_day.ensures
-    (past _ c.in_ok-expect_day-2.ensures (past _ c.in_ok-expect1-2.ensures (stops _ c.in_err-expect_spaces.ensures)))))))))))))))
+    (past _ c.in_ok-at.ensures (past _ c.in_ok-at-2.ensures (past _ c.in_ok-at-3.ensures (past _ c.in_ok-at-4.ensures (past _ c.in_ok-at-5.ensures
+    (past _ c.in_ok-at-6.ensures (past _ c.in_ok-at-7.ensures (past _ c.in_ok-at-8.ensures (past _ c.in_ok-at-9.ensures (past _ c.in_ok-at-10.ensures
+    (past _ c.in_ok-at-11.ensures (past _ c.in_ok-at-12.ensures (past _ c.in_ok-at-13.ensures (past _ c.in_ok-at-14.ensures (stops _ c.in_err-at-15.ensures)))))))))))))))
 
-pub returns-in_err-expect_again-5 : goal.returns-in_err-expect_again-5
-returns-in_err-expect_again-5 c =
-    let p = err_from_is_err_and c.from_residual-in_err-expect_again-5.result c.from_residual-in_err-expect_again-5.ensures.1 in
+pub returns-in_err-at-16 : goal.returns-in_err-at-16
+returns-in_err-at-16 c =
+    let p = err_from_is_err_and c.from_residual-in_err-at-16.result c.from_residual-in_err-at-16.ensures.1 in
     rw (p.1, p.2)
-    (past _ c.in_ok-expect.ensures (past _ c.in_ok-expect_again.ensures (past _ c.in_ok-expect6.ensures (past _ c.in_ok-expect_again-2.ensures
-    (past _ c.in_ok-expect_again-3.ensures (past _ c.in_ok-expect1.ensures (past _ c.in_ok-expect6-2.ensures (past _ c.in_ok-expect6-3.ensures
-    (past _ c.in_ok-expect_again-4.ensures (past _ c.in_ok-expect4.ensures (past _ c.in_ok-expect2.ensures (past _ c.in_ok-expect_day.ensures
-    (past _ c.in_ok-expect_day-2.ensures (past _ c.in_ok-expect1-2.ensures (past _ c.in_ok-expect_spaces.ensures (stops _ c.in_err-expect_again-5.ensures))))))))))))))))
+    (past _ c.in_ok-at.ensures (past _ c.in_ok-at-2.ensures (past _ c.in_ok-at-3.ensures (past _ c.in_ok-at-4.ensures (past _ c.in_ok-at-5.ensures
+    (past _ c.in_ok-at-6.ensures (past _ c.in_ok-at-7.ensures (past _ c.in_ok-at-8.ensures (past _ c.in_ok-at-9.ensures (past _ c.in_ok-at-10.ensures
+    (past _ c.in_ok-at-11.ensures (past _ c.in_ok-at-12.ensures (past _ c.in_ok-at-13.ensures (past _ c.in_ok-at-14.ensures
+    (past _ c.in_ok-at-15.ensures (stops _ c.in_err-at-16.ensures))))))))))))))))
 
 pub returns : goal.returns
 returns c =
-    past _ c.in_ok-expect.ensures (past _ c.in_ok-expect_again.ensures (past _ c.in_ok-expect6.ensures (past _ c.in_ok-expect_again-2.ensures
-    (past _ c.in_ok-expect_again-3.ensures (past _ c.in_ok-expect1.ensures (past _ c.in_ok-expect6-2.ensures (past _ c.in_ok-expect6-3.ensures
-    (past _ c.in_ok-expect_again-4.ensures (past _ c.in_ok-expect4.ensures (past _ c.in_ok-expect2.ensures (past _ c.in_ok-expect_day.ensures
-    (past _ c.in_ok-expect_day-2.ensures (past _ c.in_ok-expect1-2.ensures (past _ c.in_ok-expect_spaces.ensures
-    (past _ c.in_ok-expect_again-5.ensures refl)))))))))))))))
+    past _ c.in_ok-at.ensures (past _ c.in_ok-at-2.ensures (past _ c.in_ok-at-3.ensures (past _ c.in_ok-at-4.ensures (past _ c.in_ok-at-5.ensures
+    (past _ c.in_ok-at-6.ensures (past _ c.in_ok-at-7.ensures (past _ c.in_ok-at-8.ensures (past _ c.in_ok-at-9.ensures (past _ c.in_ok-at-10.ensures
+    (past _ c.in_ok-at-11.ensures (past _ c.in_ok-at-12.ensures (past _ c.in_ok-at-13.ensures (past _ c.in_ok-at-14.ensures (past _ c.in_ok-at-15.ensures
+    (past _ c.in_ok-at-16.ensures (refl))))))))))))))))

@@ -1,6 +1,0 @@
-use Rattle.std.proofs.Common.{rules}
-use Rattle.places.proofs.Fronting.{front_none, front_all}
-use Rattle.labels.proofs.header_line.Hdr1LabelLine.write.Goals as goal
-
-pub returns : goal.returns
-returns c = search (rules, front_none, front_all)

@@ -1,0 +1,5 @@
+use Rattle.places.proofs.Placing.{letters_say}
+use Rattle.places.proofs.letters.FreeFormatField.read.Goals as goal
+
+pub returns : goal.returns
+returns c = letters_say _ _ _ c.judge_free_format.ensures c.taken.ensures

@@ -1,0 +1,5 @@
+use Rattle.places.proofs.Placing.{letters_say}
+use Rattle.places.proofs.letters.TextField.read.Goals as goal
+
+pub returns : goal.returns
+returns c = letters_say _ _ _ c.judge_text.ensures c.taken.ensures

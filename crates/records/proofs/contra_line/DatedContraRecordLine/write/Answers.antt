@@ -1,6 +1,0 @@
-use Rattle.std.proofs.Common.{rules}
-use Rattle.places.proofs.Fronting.{front_none, front_all}
-use Rattle.records.proofs.contra_line.DatedContraRecordLine.write.Goals as goal
-
-pub returns : goal.returns
-returns c = search (rules, front_none, front_all)
