@@ -23,9 +23,7 @@ pub fn read_case(row: &[u8]) -> Option<Case<'_>> {
     let [letter] = letter else {
         return None;
     };
-    let Ok(service) = Service::from_letter(*letter) else {
-        return None;
-    };
+    let service = Service::try_from(*letter).ok()?;
     Some(Case {
         header,
         kind,
@@ -39,12 +37,8 @@ pub fn read_case(row: &[u8]) -> Option<Case<'_>> {
 fn parted(bytes: &[u8], mark: u8) -> Option<(&[u8], &[u8])>
     ensures { IfSome result (λ p. length p.0.now + 1 + length p.1.now ≡ length bytes.now) }
 {
-    for (i, byte) in bytes.iter().enumerate() {
-        if *byte == mark {
-            return Some((&bytes[..i], &bytes[i + 1..]));
-        }
-    }
-    None
+    let at = bytes.iter().position(|byte| *byte == mark)?;
+    Some((&bytes[..at], &bytes[at + 1..]))
 }
 
 /// The line without its line feed, if a `~` stands before that; else as it is.

@@ -2,7 +2,8 @@
 use fields::{AccountNumber, Mark, Owner, SortCode};
 use labels::{Hdr1, Hdr1Context, Hdr1Free, Hdr2, Uhl1Context};
 use records::{
-    ContraContext, DatedContraContext, DatedPaymentContext, DayRule, Originator, PaymentContext,
+    ContraContext, Dated, DatedContraContext, DatedPaymentContext, DayRule, Originator,
+    PaymentContext,
 };
 use terms::Service;
 use trailers::{Eof1Context, Utl1Context};
@@ -70,15 +71,9 @@ pub fn uhl1_context(service: Service, word: &[u8]) -> Option<Uhl1Context> {
 
 /// Sort code 010203, account 00123456.
 fn originator() -> Option<Originator> {
-    let Ok(sort_code) = SortCode::new(10203) else {
-        return None;
-    };
-    let Ok(account) = AccountNumber::new(123456) else {
-        return None;
-    };
     Some(Originator {
-        sort_code,
-        account,
+        sort_code: SortCode::new(10203).ok()?,
+        account: AccountNumber::new(123456).ok()?,
         name: NAME,
     })
 }
@@ -105,11 +100,11 @@ pub fn dated_context(service: Service, word: &[u8]) -> Option<DatedPaymentContex
         b"later" => (Some(originator()?), DayRule::Fixed(CREATION + 2)),
         _ => return None,
     };
-    Some(DatedPaymentContext {
+    let undated = PaymentContext {
         service,
         originator,
-        day,
-    })
+    };
+    Some(Dated { undated, day })
 }
 
 /// Days 10 to 20.
@@ -133,11 +128,8 @@ pub fn contra_context(service: Service, word: &[u8]) -> Option<ContraContext> {
 
 /// The same with day 12.
 pub fn dated_contra_context(service: Service, word: &[u8]) -> Option<DatedContraContext> {
-    Some(DatedContraContext {
-        service,
-        originator: originator()?,
-        total: TOTAL,
-        narrative: narrative(word)?,
+    Some(Dated {
+        undated: contra_context(service, word)?,
         day: CREATION + 2,
     })
 }

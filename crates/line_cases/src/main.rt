@@ -16,17 +16,13 @@ fn main(rt: HostRuntime) -> anyhow::Result<()> {
     run(&rt)
 }
 
-/// Answers each line of the table.
+/// Answers each line of the table. What follows the last line feed is none.
 fn run(rt: &HostRuntime) -> anyhow::Result<()> {
     let mut table = Vec::new(rt.alloc());
     rt.stdin().read_to_end(&mut table)?;
-    let mut row = Vec::new(rt.alloc());
-    for byte in table.as_slice() {
-        row.push(*byte)?;
-        if *byte == b'\n' {
-            answer(rt, row.as_slice())?;
-            row.clear();
-        }
+    let rows = table.split_inclusive(|byte| *byte == b'\n');
+    for row in rows.filter(|row| row.ends_with(b"\n")) {
+        answer(rt, row)?;
     }
     Ok(())
 }
@@ -44,8 +40,8 @@ fn answer(rt: &HostRuntime, row: &[u8]) -> anyhow::Result<()> {
     };
     let header = str::from_utf8(case.header).unwrap_or("");
     match judge(&case, cut_feed(case.line)) {
-        Some(verdict) => println!(rt; "{header}: {verdict}")?,
-        None => println!(rt; "{header}: no such kind or context")?,
+        Ok(again) => println!(rt; "{header}: {again}")?,
+        Err(refusal) => println!(rt; "{header}: {refusal}")?,
     }
     Ok(())
 }

@@ -1,15 +1,9 @@
 use lines::{FileFault, Layer, Line, read_line, write_line};
 use std::fmt;
+use thiserror::Error;
 
 /// The longest line with its line feed.
 const LONGEST: usize = 107;
-
-/// What is found of a line.
-#[derive(Clone, Copy)]
-pub enum Verdict {
-    Taken(Again),
-    Refused(FileFault),
-}
 
 /// How a line that is taken looks when it is written again.
 #[derive(Clone, Copy)]
@@ -21,60 +15,66 @@ pub enum Again {
     Other,
 }
 
-/// Reads a line as one of a kind, and writes what is read again.
-pub fn judge_as<L: Line>(line: &[u8], context: &L::Context) -> Verdict
+/// Why no line is taken.
+#[derive(Clone, Copy, Debug, Error)]
+pub enum Refusal {
+    /// The case names a kind or a context that there is not.
+    #[error("no such kind or context")]
+    NoSuchCase,
+    #[error("{number} {position} {layer}", number = .0.cause().number(), position = .0.position(), layer = word_of(.0.layer()))]
+    Fault(#[from] FileFault),
+}
+
+/// Reads a line as one of a kind, in the context that its case gives, and writes what is read again.
+pub fn judge_as<L: Line>(line: &[u8], context: Option<L::Context>) -> Result<Again, Refusal>
 where
+    L::Context: Drop,
     L::Value: Drop,
 {
-    match read_line::<L>(line, context) {
-        Ok(value) => Verdict::Taken(written_again::<L>(line, &value, context)),
-        Err(fault) => Verdict::Refused(fault),
-    }
+    let context = context.ok_or(Refusal::NoSuchCase)?;
+    let value = read_line::<L>(line, &context)?;
+    Ok(written_again::<L>(line, &value, &context))
 }
 
 fn written_again<L: Line>(line: &[u8], value: &L::Value, context: &L::Context) -> Again {
     let mut out = [0; LONGEST];
     match write_line::<L>(value, context, &mut out) {
-        Ok(count) => compared(line, out.get(..count).unwrap_or(b"")),
+        Ok(count) => compared(line, &out[..count]),
         Err(_) => Again::Other,
     }
 }
 
 /// How what is written differs from what was read.
 fn compared(read: &[u8], written: &[u8]) -> Again {
-    if read.len() != written.len() {
-        return Again::Other;
+    if read == written {
+        Again::Same
+    } else if read.len() == written.len()
+        && read
+            .iter()
+            .zip(written)
+            .all(|(old, new)| *old == *new || *new == b' ')
+    {
+        Again::Free
+    } else {
+        Again::Other
     }
-    let mut again = Again::Same;
-    for (old, new) in read.iter().zip(written) {
-        if *old != *new {
-            if *new != b' ' {
-                return Again::Other;
-            }
-            again = Again::Free;
-        }
-    }
-    again
 }
 
-impl fmt::Display for Verdict {
+impl fmt::Display for Again {
     fn fmt<W: fmt::Write>(&self, f: &mut fmt::Formatter<W>) -> fmt::Result {
-        match self {
-            Verdict::Taken(Again::Same) => f.write_str("ok same"),
-            Verdict::Taken(Again::Free) => f.write_str("ok free"),
-            Verdict::Taken(Again::Other) => f.write_str("ok other"),
-            Verdict::Refused(fault) => show_fault(f, *fault),
-        }
+        f.write_str(match self {
+            Again::Same => "ok same",
+            Again::Free => "ok free",
+            Again::Other => "ok other",
+        })
     }
 }
 
-fn show_fault<W: fmt::Write>(f: &mut fmt::Formatter<W>, fault: FileFault) -> fmt::Result {
-    let number = fault.cause().number();
-    let position = fault.position();
-    let layer = match fault.layer() {
+/// The word by which a verdict names a layer.
+fn word_of(layer: Layer) -> &'static str {
+    match layer {
         Layer::Field => "field",
         Layer::Line => "line",
         Layer::File => "file",
-    };
-    write!(f, "{number} {position} {layer}")
+    }
 }

@@ -37,3 +37,8 @@ field_from first (last ∷ lasts) place = cond (place == first) (Some (first, la
 -- the field of a line that begins at a place: an undated record ends before the day
 abbrev pub field_places : LineKind → ℕ → Option (ℕ × ℕ)
 field_places k place = cond (nat_le place (line_length k)) (field_from 1 (field_ends k) place) None
+
+-- the first and the last place of fields that end at these places, where the first of them begins at `first`
+abbrev pub fields_from : ℕ → List ℕ → List (ℕ × ℕ)
+fields_from first [] = []
+fields_from first (last ∷ lasts) = (first, last) ∷ fields_from (last + 1) lasts

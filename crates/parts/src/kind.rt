@@ -34,18 +34,18 @@ impl LineKind {
 
 impl fmt::Display for LineKind {
     fn fmt<W: fmt::Write>(&self, f: &mut fmt::Formatter<W>) -> fmt::Result {
-        match self {
-            LineKind::Vol1 => f.write_str("VOL1"),
-            LineKind::Hdr1 => f.write_str("HDR1"),
-            LineKind::Hdr2 => f.write_str("HDR2"),
-            LineKind::Uhl1 => f.write_str("UHL1"),
-            LineKind::Payment => f.write_str("payment"),
-            LineKind::DatedPayment => f.write_str("dated payment"),
-            LineKind::Contra => f.write_str("contra"),
-            LineKind::DatedContra => f.write_str("dated contra"),
-            LineKind::Eof1 => f.write_str("EOF1"),
-            LineKind::Eof2 => f.write_str("EOF2"),
-            LineKind::Utl1 => f.write_str("UTL1"),
-        }
+        f.write_str(match self {
+            LineKind::Vol1 => "VOL1",
+            LineKind::Hdr1 => "HDR1",
+            LineKind::Hdr2 => "HDR2",
+            LineKind::Uhl1 => "UHL1",
+            LineKind::Payment => "payment",
+            LineKind::DatedPayment => "dated payment",
+            LineKind::Contra => "contra",
+            LineKind::DatedContra => "dated contra",
+            LineKind::Eof1 => "EOF1",
+            LineKind::Eof2 => "EOF2",
+            LineKind::Utl1 => "UTL1",
+        })
     }
 }

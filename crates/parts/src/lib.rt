@@ -2,7 +2,6 @@
 #![tactic(auto)]
 
 mod kind;
-mod labels;
 mod line;
 mod places;
 mod records;

@@ -1,9 +1,12 @@
 //! The parts of the records. The day is what follows the first 100 bytes: six bytes in a multi-day file, and else none.
+//! What both kinds share is written out in each: the fields of the two variants are public, and each is named where it is cut.
+//! Both ask for a line of at least 100 bytes, which `line_parts` has tested: a type for it would be made and taken apart in that one call.
+#![tactic(auto, unfolding(tables::specs::Walks::part))]
+
 ghost use Rattle.std.specs.Prelude.{◌≡◌, ◌≤◌, length};
 ghost use Rattle.parts.specs.Parts.{says, payment_parts, contra_parts, Sized};
 
 use crate::LineParts;
-use crate::line::cut;
 
 /// A payment: from whom and to whom it goes, how much, and what both accounts are told.
 pub(crate) fn payment_parts<'a>(line: &'a [u8]) -> LineParts<'a>
@@ -12,17 +15,17 @@ pub(crate) fn payment_parts<'a>(line: &'a [u8]) -> LineParts<'a>
     ensures sized { Sized (length line.now) result }
 {
     LineParts::Payment {
-        sort_code: cut(line, 0, 6),
-        account: cut(line, 6, 14),
-        code: cut(line, 15, 17),
-        originator_sort_code: cut(line, 17, 23),
-        originator_account: cut(line, 23, 31),
-        free_format: cut(line, 31, 35),
-        amount: cut(line, 35, 46),
-        originator_name: cut(line, 46, 64),
-        reference: cut(line, 64, 82),
-        name: cut(line, 82, 100),
-        day: cut(line, 100, line.len()),
+        sort_code: &line[0..6],
+        account: &line[6..14],
+        code: &line[15..17],
+        originator_sort_code: &line[17..23],
+        originator_account: &line[23..31],
+        free_format: &line[31..35],
+        amount: &line[35..46],
+        originator_name: &line[46..64],
+        reference: &line[64..82],
+        name: &line[82..100],
+        day: &line[100..],
     }
 }
 
@@ -33,14 +36,14 @@ pub(crate) fn contra_parts<'a>(line: &'a [u8]) -> LineParts<'a>
     ensures sized { Sized (length line.now) result }
 {
     LineParts::Contra {
-        sort_code: cut(line, 0, 6),
-        account: cut(line, 6, 14),
-        code: cut(line, 15, 17),
-        originator_sort_code: cut(line, 17, 23),
-        originator_account: cut(line, 23, 31),
-        amount: cut(line, 35, 46),
-        narrative: cut(line, 46, 64),
-        originator_name: cut(line, 82, 100),
-        day: cut(line, 100, line.len()),
+        sort_code: &line[0..6],
+        account: &line[6..14],
+        code: &line[15..17],
+        originator_sort_code: &line[17..23],
+        originator_account: &line[23..31],
+        amount: &line[35..46],
+        narrative: &line[46..64],
+        originator_name: &line[82..100],
+        day: &line[100..],
     }
 }
