@@ -3,13 +3,17 @@ ghost use Rattle.headings.specs.declared.refusal.Refusal.TheVariants.{Input, Sta
 ghost use Rattle.headings.specs.Refusals.{refusal_cause};
 
 use lines::Fault;
-use std::fmt;
 use terms::{Cause, StateCause};
+use thiserror::Error;
 
 /// Why a call is refused: a fault of what was handed in, with its place, or the state that the call found.
-#[derive(Clone, Copy)]
+// Not one generic type with `Cause`: a fault carries its line and position, which an input cause has not, and a generic type
+// over what is wrong with the input would be written out with it at each use.
+#[derive(Clone, Copy, PartialEq, Eq, Debug, Error)]
 pub enum Refusal {
+    #[error(transparent)]
     Input(Fault),
+    #[error("{number}: {cause}", number = .0.number(), cause = .0)]
     State(StateCause),
 }
 
@@ -38,17 +42,5 @@ impl From<StateCause> for Refusal {
 
     fn from(e: StateCause) -> Refusal {
         Refusal::State(e)
-    }
-}
-
-impl fmt::Display for Refusal {
-    fn fmt<W: fmt::Write>(&self, f: &mut fmt::Formatter<W>) -> fmt::Result {
-        match self {
-            Refusal::Input(fault) => write!(f, "{fault}"),
-            Refusal::State(cause) => {
-                let number = cause.number();
-                write!(f, "{number}: {cause}")
-            }
-        }
     }
 }

@@ -1,6 +1,7 @@
 use fields::{AccountNumber, PaymentCode, SortCode};
 
 /// A payment. The originator is the heading's; the day is that of the payment's batch, in a single-day file the processing day.
+// Not the record's `DatedPayment`: that holds the originator too, which is the same in all rows, so that each would hold it again.
 #[derive(Clone, Copy)]
 pub struct Row {
     pub sort_code: SortCode,

@@ -1,5 +1,5 @@
 -- The first line feed parts the bytes into a line and what follows; where there is none, they hold no line feed.
-use Rattle.std.proofs.Common.{◌≡◌, ℕ, ◌+◌, ◌<◌, Bool, true, false, cond, eqb, List, [], ◌∷◌, ◌++◌, length, take, Some, None, Ok, Err, Option, Result, sym, refl, ap, ◌∙◌, arith, length-append}
+use Rattle.std.proofs.Common.{◌≡◌, ℕ, ◌+◌, ◌<◌, Bool, true, false, cond, eqb, List, [], ◌∷◌, ◌++◌, length, take, Some, None, Ok, Err, Option, Result, refl, ap, ◌∙◌, arith, length-append}
 use Rattle.std.proofs.lemmas.Bool.{and_from, eqb-true, not_from_false}
 use Rattle.std.proofs.lemmas.List.{take_at}
 use Rattle.lines.specs.declared.fault.FileFault.{FileFault}
@@ -14,19 +14,16 @@ pub record Fed (k : ℕ) (bs : List ℕ) (m : ℕ) : Type 0 where
   pub is : bs ≡ front ++ 10 ∷ tail
   pub at : m ≡ k + length front
 
-no_some : {m : ℕ} → ◌≡◌ {A = Option ℕ} (Some m) None → ⊥
-no_some h = let z : ◌≡◌ {A = ℕ} 0 1 = cc in omega arith
-
 pub feed_none : (bs : List ℕ) (k : ℕ) → feed_from k bs ≡ None → plain bs ≡ true
 feed_none [] k h = refl
 feed_none (b ∷ bs) k h = go (eqb b 10) refl h (feed_none bs (k + 1))
   where
     go : (t : Bool) → eqb b 10 ≡ t → cond t (Some k) (feed_from (k + 1) bs) ≡ None → (feed_from (k + 1) bs ≡ None → plain bs ≡ true) → plain (b ∷ bs) ≡ true
-    go true e q later = absurd (no_some q)
+    go true e q later = cc
     go false e q later = and_from _ _ (not_from_false _ e) (later q)
 
 pub feed_some : (bs : List ℕ) (k m : ℕ) → feed_from k bs ≡ Some m → Fed k bs m
-feed_some [] k m h = absurd (no_some (sym h))
+feed_some [] k m h = cc
 feed_some (b ∷ bs) k m h = go (eqb b 10) refl h (feed_some bs (k + 1) m)
   where
     here : {i j : ℕ} → ◌≡◌ {A = Option ℕ} (Some i) (Some j) → j ≡ i
@@ -47,6 +44,12 @@ feed_some (b ∷ bs) k m h = go (eqb b 10) refl h (feed_some bs (k + 1) m)
           at = omega arith;
         }
 
+-- where the line feed stands after `long` bytes, these are the line
+pub wide_line : {bs : List ℕ} {m : ℕ} (long : ℕ) (f : Fed 0 bs m) → eqb m long ≡ true → (length f.front ≡ long) × (take long bs ≡ f.front)
+wide_line {bs} {m} long f e =
+    let wide : length f.front ≡ long = omega (arith, eqb-true m long e, f.at) in
+    (wide, ap (take long) f.is ∙ take_at f.front (10 ∷ f.tail) long wide)
+
 -- x is read of a line of `long` bytes at the front
 pub record ReadOf {X : Type 0} (long : ℕ) (reading : List ℕ → Result X FileFault) (bs : List ℕ) (x : X) : Type 0 where
   pub line : List ℕ
@@ -61,8 +64,8 @@ read_of {X} long reading bs x h = go (feed_from 0 bs) refl h
     sized : (m : ℕ) → feed_from 0 bs ≡ Some m → (t : Bool) → eqb m long ≡ t → Ok x ≡ cond t (reading (take long bs)) (Err (Line WrongLength)) → ReadOf long reading bs x
     sized m e true s q =
         let f = feed_some bs 0 m e in
-        let wide : length f.front ≡ long = omega (arith, eqb-true m long s, f.at) in
-        record { line = f.front; tail = f.tail; is = f.is; wide = wide; read = q ∙ ap reading (ap (take long) f.is ∙ take_at f.front (10 ∷ f.tail) long wide) }
+        let w = wide_line long f s in
+        record { line = f.front; tail = f.tail; is = f.is; wide = w.0; read = q ∙ ap reading w.1 }
     sized m e false s q = cc
 
     go : (o : Option ℕ) → feed_from 0 bs ≡ o → Ok x ≡ cut_reading long reading bs o → ReadOf long reading bs x

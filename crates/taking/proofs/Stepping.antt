@@ -1,8 +1,8 @@
 -- The reading of a file goes on line by line as lines are taken off its bytes.
-use Rattle.std.proofs.Common.{◌≡◌, ℕ, ◌+◌, Bool, true, false, cond, eqb, List, [], ◌∷◌, ◌++◌, length, take, drop, Some, None, Ok, Err, Option, Result, sym, refl, ap, ◌∙◌, arith}
+use Rattle.std.proofs.Common.{◌≡◌, ℕ, ◌+◌, Bool, true, false, cond, eqb, List, ◌∷◌, ◌++◌, length, drop, Some, None, Ok, Err, Option, Result, sym, refl, ap, ◌∙◌, arith}
 use Rattle.std.specs.Result.{result_map_both}
-use Rattle.std.proofs.lemmas.List.{drop_at, take_at}
-use Rattle.std.proofs.lemmas.Bool.{cond-false, cond-true, eq-eqb, eqb-true, eqb-false, ne_eqb}
+use Rattle.std.proofs.lemmas.List.{drop-drop, drop_at}
+use Rattle.std.proofs.lemmas.Bool.{cond-false, cond-true, eq-eqb, eqb-false, ne_eqb}
 use Rattle.tables.specs.Lines.{By, Table, Values, at_values, fields_fault, values, line_width, TableFault}
 use Rattle.tables.specs.Walks.{outcome}
 use Rattle.tables.proofs.Walking.{walk_law}
@@ -20,7 +20,7 @@ use Rattle.grammar.specs.Reading.Outcome.{refused}
 use Rattle.grammar.specs.Reading.{Outcome, finish, line_said, no_line, onward, reading_on, step}
 use Rattle.grammar.proofs.Bytes.{reading_cut, reading_end}
 use Rattle.taking.specs.Taking.{carried, taking}
-use Rattle.taking.proofs.Feeds.{Fed, feed_none, feed_some}
+use Rattle.taking.proofs.Feeds.{Fed, feed_none, feed_some, wide_line}
 
 -- A line that is judged at the place where it stands.
 
@@ -61,25 +61,13 @@ module _ {X : Type 0} (g : Setting) (n : ℕ) (s : Said) (long : ℕ) (k : X →
 
   some_line : Agrees → (m : ℕ) (f : Fed 0 bytes m) (t : Bool) → eqb m long ≡ t → onward n (step g s f.front) (λ to. reading_on g (n + 1) to f.tail) ≡ goes_on (Some m)
   some_line a m f true e =
-      let wide : length f.front ≡ long = omega (arith, eqb-true m long e, f.at) in
-      let line : take long bytes ≡ f.front = ap (take long) f.is ∙ take_at f.front (10 ∷ f.tail) long wide in
-      let past : drop (long + 1) bytes ≡ f.tail = dropped f.front f.tail f.is wide in
-      ap (λ (r : Result Said FileFault). onward n r (λ to. reading_on g (n + 1) to f.tail)) (a.same f.front f.tail f.is wide)
+      let w = wide_line long f e in
+      let past : drop (long + 1) bytes ≡ f.tail = sym (drop-drop 1 long bytes) ∙ ap (drop 1) (ap (drop long) f.is ∙ drop_at f.front (10 ∷ f.tail) long w.0) in
+      ap (λ (r : Result Said FileFault). onward n r (λ to. reading_on g (n + 1) to f.tail)) (a.same f.front f.tail f.is w.0)
       ∙ ap (λ (l : List ℕ). onward n (result_map_both k (λ e. e) (rd f.front)) (λ to. reading_on g (n + 1) to l)) (sym past)
       ∙ either_way (rd f.front)
-      ∙ ap (λ (l : List ℕ). carried (result_map_both (λ x. x) (λ e. numbered e n) (rd l)) later) (sym line)
+      ∙ ap (λ (l : List ℕ). carried (result_map_both (λ x. x) (λ e. numbered e n) (rd l)) later) (sym w.1)
       ∙ ap (λ (r : Result X FileFault). carried (result_map_both (λ x. x) (λ e. numbered e n) r) later) (sym (cond-true (eqb m long) _ _ e))
-    where
-      front_fed : (l tail : List ℕ) → length (l ++ 10 ∷ []) ≡ length l + 1
-      front_fed [] tail = refl
-      front_fed (x ∷ l) tail = omega (arith, front_fed l tail)
-
-      regroup : (l tail : List ℕ) → l ++ 10 ∷ tail ≡ (l ++ 10 ∷ []) ++ tail
-      regroup [] tail = refl
-      regroup (x ∷ l) tail = ap (λ (r : List ℕ). x ∷ r) (regroup l tail)
-
-      dropped : (l tail : List ℕ) → bytes ≡ l ++ 10 ∷ tail → length l ≡ long → drop (long + 1) bytes ≡ tail
-      dropped l tail is wide = ap (drop (long + 1)) (is ∙ regroup l tail) ∙ drop_at (l ++ 10 ∷ []) tail (long + 1) (omega (arith, front_fed l tail))
   some_line a m f false e =
       let narrow : length f.front ≡ long → ⊥ = λ h. eqb-false m long e (omega (arith, f.at)) in
       ap (λ (r : Result Said FileFault). onward n r (λ to. reading_on g (n + 1) to f.tail)) (a.other f.front f.tail f.is narrow)
@@ -117,23 +105,3 @@ table_agrees g n s long bytes k t make add stood wide made ends = record {
   other = λ l tail is h. ap (λ (x : Next). line_said x l) (stood l tail is) ∙ line_wrong (stands t add) l (λ e. h (e ∙ wide));
   ends = ends;
 }
-
--- a line that two readings read alike is taken alike
-pub taking_as : {X Y : Type 0} (n long : ℕ) (k : X → Y) (rd : List ℕ → Result X FileFault) (to : List ℕ → Result Y FileFault) (bytes : List ℕ) → ((l tail : List ℕ) → bytes ≡ l ++ 10 ∷ tail → length l ≡ long → to l ≡ result_map_both k (λ e. e) (rd l)) → taking n long to bytes ≡ result_map_both k (λ e. e) (taking n long rd bytes)
-taking_as {X} {Y} n long k rd to bytes same = ap (result_map_both (λ y. y) (λ e. numbered e n)) (all (feed_from 0 bytes) refl) ∙ put (cut_reading long rd bytes (feed_from 0 bytes))
-  where
-    put : (r : Result X FileFault) → result_map_both (λ y. y) (λ e. numbered e n) (result_map_both k (λ e. e) r) ≡ result_map_both k (λ e. e) (result_map_both (λ x. x) (λ e. numbered e n) r)
-    put (Ok x) = refl
-    put (Err e) = refl
-
-    sized : (m : ℕ) → feed_from 0 bytes ≡ Some m → (t : Bool) → eqb m long ≡ t → cond t (to (take long bytes)) (Err (Line WrongLength)) ≡ result_map_both k (λ e. e) (cond t (rd (take long bytes)) (Err (Line WrongLength)))
-    sized m e true q =
-        let f = feed_some bytes 0 m e in
-        let wide : length f.front ≡ long = omega (arith, eqb-true m long q, f.at) in
-        let line : take long bytes ≡ f.front = ap (take long) f.is ∙ take_at f.front (10 ∷ f.tail) long wide in
-        ap to line ∙ same f.front f.tail f.is wide ∙ ap (λ (l : List ℕ). result_map_both k (λ e. e) (rd l)) (sym line)
-    sized m e false q = refl
-
-    all : (o : Option ℕ) → feed_from 0 bytes ≡ o → cut_reading long to bytes o ≡ result_map_both k (λ e. e) (cut_reading long rd bytes o)
-    all None e = refl
-    all (Some m) e = sized m e (eqb m long) refl

@@ -5,13 +5,17 @@ use Rattle.records.specs.Contras.{contra_shown}
 use Rattle.grammar.specs.Next.{Fixed, is_eof1}
 use Rattle.taking.specs.declared.expected.Expected.{Expected}
 use Rattle.taking.specs.declared.expected.Expected.TheVariants.{Payment, Contra, Trailer}
+use Rattle.taking.specs.declared.expected.Progress.{Progress}
+use Rattle.taking.specs.declared.expected.Progress.TheVariants.{Start, InBatch, AfterContra}
 
--- `begun`: there was a payment; `unclosed`: the last batch has no contra yet
-abbrev pub expected_line : Service → Bool → Bool → Bool → List ℕ → Expected
-expected_line g multi begun unclosed bytes =
-    cond unclosed
-    (cond (contra_shown g bytes) Contra Payment)
-    (cond begun (cond (multi && not (is_eof1 bytes)) Payment Trailer) Payment)
+abbrev pub expected_line : Service → Bool → Progress → List ℕ → Expected
+expected_line g multi Start bytes = Payment
+expected_line g multi InBatch bytes = cond (contra_shown g bytes) Contra Payment
+expected_line g multi AfterContra bytes = cond (multi && not (is_eof1 bytes)) Payment Trailer
+
+-- by what the records so far fix: an originator once there was a payment, a batch until it has its contra
+abbrev pub progress_by : Fixed → Progress
+progress_by x = cond (is_some x.batch) InBatch (cond (is_some x.originator) AfterContra Start)
 
 abbrev pub expected_by : Service → Bool → Fixed → List ℕ → Expected
-expected_by g multi x bytes = expected_line g multi (is_some x.originator) (is_some x.batch) bytes
+expected_by g multi x bytes = expected_line g multi (progress_by x) bytes

@@ -1,9 +1,19 @@
 ghost use Rattle.std.specs.Prelude.{◌≡◌};
-ghost use Rattle.grammar.specs.Next.{is_eof1};
 ghost use Rattle.taking.specs.Expecting.{expected_line};
 
 use records::is_contra;
 use terms::Service;
+
+/// How far the records so far have come.
+#[derive(Clone, Copy, PartialEq, Eq, Debug)]
+pub enum Progress {
+    /// There is none yet.
+    Start,
+    /// The last batch has payments and no contra yet.
+    InBatch,
+    /// The last record is the contra of its batch.
+    AfterContra,
+}
 
 /// Which line comes after the records so far.
 #[derive(Clone, Copy, PartialEq, Eq, Debug)]
@@ -14,33 +24,13 @@ pub enum Expected {
     Trailer,
 }
 
-/// Which line comes, by the bytes that follow: `begun` says that there was a payment, `unclosed` that the last batch has no contra yet.
-pub fn expect_line(
-    service: Service,
-    multi: bool,
-    begun: bool,
-    unclosed: bool,
-    bytes: &[u8],
-) -> Expected
-    ensures { result ≡ expected_line service multi begun unclosed bytes.now }
+/// Which line comes, by the bytes that follow.
+pub fn expect_line(service: Service, multi: bool, progress: Progress, bytes: &[u8]) -> Expected
+    ensures { result ≡ expected_line service multi progress bytes.now }
 {
-    if unclosed {
-        return if is_contra(service, bytes) {
-            Expected::Contra
-        } else {
-            Expected::Payment
-        };
+    match progress {
+        Progress::InBatch if is_contra(service, bytes) => Expected::Contra,
+        Progress::AfterContra if !multi || bytes.starts_with(b"EOF1") => Expected::Trailer,
+        Progress::Start | Progress::InBatch | Progress::AfterContra => Expected::Payment,
     }
-    if !begun || multi && !begins_eof1(bytes) {
-        return Expected::Payment;
-    }
-    Expected::Trailer
-}
-
-/// Whether the bytes begin as EOF1 does.
-fn begins_eof1(bytes: &[u8]) -> bool
-    ensures { result ≡ is_eof1 bytes.now }
-{
-    let head: &[u8] = b"EOF1";
-    bytes.len() >= 4 && &bytes[0..4] == head
 }

@@ -4,5 +4,5 @@
 mod expected;
 mod taken;
 
-pub use expected::{Expected, expect_line};
+pub use expected::{Expected, Progress, expect_line};
 pub use taken::{opens_day_at, take_line};

@@ -6,35 +6,26 @@ ghost use Rattle.taking.specs.Taking.{open_at, taking};
 use calendars::Calendar;
 use days::read_date;
 use lines::{Fault, Line, read_line};
-use places::part;
 
 /// Reads the line with this number at the front of the bytes: finds its line feed, tests its length, and judges its fields from the left.
+#[tactic(auto, using(crate::proofs::Feeds::read_within))]
 pub fn take_line<L: Line>(
     number: usize,
     bytes: &[u8],
     context: &L::Context,
 ) -> Result<L::Value, Fault>
-    ensures value { result_map_both L.Line.says (λ e. e) result ≡ taking number L.Line.long (λ l. place_reading (L.Line.place context.now l) l) bytes.now }
-    ensures within { OnOk result (L.Line.long < length bytes.now) }
+    ensures value { result_map_both L.says (λ e. e) result ≡ taking number L.LENGTH (λ l. place_reading (L.place context.now l) l) bytes.now }
+    ensures within { OnOk result (L.LENGTH < length bytes.now) }
 {
-    match read_line::<L>(bytes, context) {
-        Ok(value) => Ok(value),
-        Err(fault) => Err(fault.in_line(number)),
-    }
+    read_line::<L>(bytes, context).map_err(|fault| fault.in_line(number))
 }
 
 /// Whether the calendar opens the day that stands after the first `from` bytes, if one stands there.
+#[tactic(auto, unfolding(crate::specs::Taking::open_at, tables::specs::Forms::read_form, tables::specs::Walks::part))]
 pub fn opens_day_at<C: Calendar>(calendar: &C, bytes: &[u8], from: usize) -> bool
-    ensures { result ≡ open_at (C.Calendar.opens calendar.now) from bytes.now }
+    ensures { result ≡ open_at (C.opens calendar.now) from bytes.now }
 {
-    let Some(to) = from.checked_add(6) else {
-        return false;
-    };
-    if bytes.len() < to {
-        return false;
-    }
-    match read_date(part(bytes, from, to)) {
-        Ok(day) => calendar.is_open(day),
-        Err(_) => false,
-    }
+    from.checked_add(6)
+        .and_then(|to| bytes.get(from..to))
+        .is_some_and(|text| read_date(text).is_ok_and(|day| calendar.is_open(day)))
 }
