@@ -38,7 +38,7 @@ unfolding next_member
 next_is_least f w d = least_among f w d (d + (36525 - d)) (omega arith) (next_member f d) (first_among f (36525 - d) d)
 
 -- an answer that is `next_member` is the least member
-least_from : (f : ℕ → Bool) → Within f → (d : ℕ) (o : Option ℕ) → o ≡ next_member f d → Least f d o
+pub least_from : (f : ℕ → Bool) → Within f → (d : ℕ) (o : Option ℕ) → o ≡ next_member f d → Least f d o
 least_from f w d o e = subst⁻¹ (λ (x : Option ℕ). Least f d x) e (next_is_least f w d)
 
 -- there is one least member

@@ -1,4 +1,4 @@
-ghost use Rattle.std.specs.Prelude.{◌≡◌, true, []};
+ghost use Rattle.std.specs.Prelude.{◌≡◌, ◌≤◌, true, [], length};
 ghost use Rattle.calendars.specs.Entered.{among, apart, entry_answer, entry_after, less, EnteringClosesOne};
 ghost use Rattle.std.proofs.Common.{rules};
 
@@ -15,6 +15,7 @@ pub const MOST_CLOSED_DAYS: usize = 64;
 pub struct ClosedDays<C> {
     below: C,
     entered: ArrayVec<u32, MOST_CLOSED_DAYS>,
+    ghost few: { length entered.items ≤ 64 },
     ghost once: { apart entered.items ≡ true },
 }
 

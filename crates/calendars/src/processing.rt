@@ -53,10 +53,10 @@ pub fn last_usable_day(service: Service, processing: u32) -> u32
 pub fn count_open_days<C: Calendar>(calendar: &C, first: u32, last: u32) -> u32
     ensures { result ≡ open_count (C.opens calendar.now) first last }
 {
-    // At most 36,525 days are counted, so the count fits.
-    (first..last.min(LAST_DAY) + 1)
-        .filter(|day| calendar.is_open(*day))
-        .count() as u32
+    // At most 36,525 days are counted, so the sum fits.
+    (first..last.min(LAST_DAY) + 1).fold(0u32, |count, day| {
+        count.wrapping_add(u32::from(calendar.is_open(day)))
+    })
 }
 
 /// The days that a file opened on a day may use at the earliest, if there are any. A number above 36,524 is no opening day.

@@ -16,20 +16,24 @@ fn main(rt: HostRuntime) -> anyhow::Result<()> {
     run(&rt)
 }
 
-/// Answers each pair of arguments, or a sample where there is none; an opening date that is missing is no date.
+/// Answers each pair of arguments as it comes, or a sample where there is none; an opening date that is missing is no date.
+// Not by `chunks`: the words would be kept a second time before the first answer.
 fn run(rt: &HostRuntime) -> anyhow::Result<()> {
-    let words: Vec<String> = env::args(rt)?.skip(1).collect(rt.alloc())?;
-    if words.is_empty() {
+    let words = env::args(rt)?.skip(1);
+    if words.len() == 0 {
         return answer(rt, "C", "16003");
     }
-    for question in words.chunks(2) {
-        match question {
-            [letter, date] => answer(rt, letter.as_str(), date.as_str())?,
-            [letter] => answer(rt, letter.as_str(), "")?,
-            _ => {}
+    let mut letter: Option<String> = None;
+    for word in words {
+        match letter.take() {
+            None => letter = Some(word),
+            Some(first) => answer(rt, first.as_str(), word.as_str())?,
         }
     }
-    Ok(())
+    match letter {
+        Some(last) => answer(rt, last.as_str(), ""),
+        None => Ok(()),
+    }
 }
 
 /// Prints the report for one question, or why it is refused.

@@ -1,5 +1,5 @@
 -- Bytes that are one of some listed contents, blank, digits, or after a slash.
-use Rattle.std.proofs.Common.{◌≡◌, ℕ, ◌-◌, false, ◌&&◌, eqb, List, [], ◌∷◌, length, get_or, take, drop, map, Some, None, Ok, Err, Option, Result, sym, refl, ap, ◌∙◌, inl, inr, arith}
+use Rattle.std.proofs.Common.{◌≡◌, ℕ, ◌-◌, Bool, true, false, cond, is_ok, ◌&&◌, eqb, List, [], ◌∷◌, length, get_or, take, drop, map, Some, None, Ok, Err, Option, Result, sym, refl, ap, ◌∙◌, inl, inr, arith}
 use Rattle.std.specs.Char.{is_ascii_digit}
 use Rattle.std.specs.Option.{ok_or}
 use Rattle.std.specs.Result.{result_map_both}
@@ -46,6 +46,17 @@ judged_same says (Some d) v (Err e) h = cc
 pub read_verdict : {X : Type 0} (k : Kind) (says : X → Value k) (bs : List ℕ) (r : Result X InputCause) → result_map_both says (λ e. e) r ≡ reading k bs → cause_of r ≡ verdict k bs
 unfolding reading
 read_verdict k says bs r h = judged_same says (judge k bs) _ r h
+
+-- whether one of the listed contents is read, as what is wrong with the bytes
+pub read_listed : {X : Type 0} (says : X → List ℕ) (w : ℕ) (c : InputCause) (cs : List (List ℕ)) (bs : List ℕ) (r : Result X InputCause) → result_map_both says (λ e. e) r ≡ reading (listed w c cs) bs → cond (is_ok r) (Ok (tt {0})) (Err c) ≡ verdict (listed w c cs) bs
+unfolding reading
+read_listed {X} says w c cs bs r h = by_listed (one_of cs bs) r h
+  where
+    by_listed : (b : Bool) (r : Result X InputCause) → result_map_both says (λ e. e) r ≡ judged (cond b None (Some c)) bs → cond (is_ok r) (Ok (tt {0})) (Err c) ≡ judged (cond b None (Some c)) (tt {0})
+    by_listed true (Ok x) h = refl
+    by_listed true (Err e) h = cc
+    by_listed false (Ok x) h = cc
+    by_listed false (Err e) h = refl
 
 pub all_digits_each : (bs : List ℕ) → all_digits bs ≡ each is_ascii_digit bs
 all_digits_each [] = refl

@@ -3,10 +3,11 @@ ghost use Rattle.std.specs.Result.{result_map_both};
 ghost use Rattle.fields.specs.Judging.{number_making, number_reading};
 
 use digits::read_digits;
+use std::fmt;
 use terms::InputCause;
 
 /// A number at a bank, below a limit.
-#[derive(Clone, Copy, PartialEq, Eq, Debug)]
+#[derive(Clone, Copy, PartialEq, Eq)]
 pub struct BankNumber<const LIMIT: u32> {
     value: u32,
     ghost bound: { value < LIMIT },
@@ -43,5 +44,17 @@ impl<const LIMIT: u32> BankNumber<LIMIT> {
         ensures { result ≡ self.entry.value }
     {
         self.value
+    }
+}
+
+// Derived, it would print a sort code and an account number under one name.
+impl<const LIMIT: u32> fmt::Debug for BankNumber<LIMIT> {
+    fn fmt<W: fmt::Write>(&self, f: &mut fmt::Formatter<W>) -> fmt::Result {
+        let name = match LIMIT {
+            1_000_000 => "SortCode",
+            100_000_000 => "AccountNumber",
+            _ => "BankNumber",
+        };
+        f.debug_struct(name).field("value", &self.number()).finish()
     }
 }

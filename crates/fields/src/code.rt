@@ -4,6 +4,7 @@ ghost use Rattle.fields.specs.Words.{code, codes_of, contra_code_text};
 ghost use Rattle.fields.specs.Judging.{code_text, verdict};
 ghost use Rattle.tables.specs.Walks.{reading};
 
+use crate::judging::judged;
 use terms::{InputCause, Service};
 
 /// What kind of payment it is.
@@ -56,8 +57,8 @@ impl PaymentCode {
     pub fn judge(self, service: Service) -> Result<(), InputCause>
         ensures { result ≡ verdict (code service) (code_text self) }
     {
-        Self::read(service, &self.text())?;
-        Ok(())
+        let had = Self::read(service, &self.text()).is_ok();
+        judged(had, InputCause::WrongCode)
     }
 }
 

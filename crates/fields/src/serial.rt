@@ -1,5 +1,5 @@
 ghost use Rattle.std.specs.Prelude.{◌≡◌};
-ghost use Rattle.fields.specs.Characters.{at_right, empty_serial};
+ghost use Rattle.fields.specs.Characters.{at_right, each, empty_serial, is_sign_byte};
 ghost use Rattle.fields.specs.Words.{serial};
 ghost use Rattle.fields.specs.Judging.{verdict};
 
@@ -18,10 +18,16 @@ pub fn judge_serial(field: &[u8]) -> Result<(), InputCause>
 fn is_at_right(field: &[u8]) -> bool
     ensures { result ≡ at_right field.now }
 {
-    field
-        .iter()
-        .skip_while(|byte| **byte == b' ')
-        .all(|byte| is_sign(*byte))
+    match field.iter().position(|byte| *byte != b' ') {
+        Some(at) => has_only_signs(&field[at..]),
+        None => true,
+    }
+}
+
+fn has_only_signs(field: &[u8]) -> bool
+    ensures { result ≡ each is_sign_byte field.now }
+{
+    field.iter().all(|byte| is_sign(*byte))
 }
 
 fn is_empty_serial(field: &[u8]) -> bool

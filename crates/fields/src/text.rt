@@ -1,5 +1,5 @@
-ghost use Rattle.std.specs.Prelude.{◌≡◌};
-ghost use Rattle.fields.specs.Characters.{at_left, each, is_letter};
+ghost use Rattle.std.specs.Prelude.{◌≡◌, ◌==◌, filter};
+ghost use Rattle.fields.specs.Characters.{at_left, each, is_letter, is_sign_byte};
 ghost use Rattle.fields.specs.Words.{filled, reference, same_signs, sign_count, strong, text};
 ghost use Rattle.fields.specs.Judging.{verdict};
 
@@ -65,11 +65,18 @@ fn count_signs(field: &[u8]) -> usize
 fn has_same_signs(field: &[u8]) -> bool
     ensures { result ≡ same_signs field.now }
 {
-    match field.iter().find(|byte| is_sign(**byte)) {
-        Some(first) => field
-            .iter()
-            .filter(|byte| is_sign(**byte))
-            .all(|byte| byte == first),
+    match field.iter().position(|byte| is_sign(*byte)) {
+        Some(at) => has_no_other_sign(&field[at + 1..], field[at]),
         None => true,
     }
+}
+
+/// Whether no other capital or digit than this one stands in the field.
+fn has_no_other_sign(field: &[u8], sign: u8) -> bool
+    ensures { result ≡ each (λ b. b == sign) (filter is_sign_byte field.now) }
+{
+    field
+        .iter()
+        .filter(|byte| is_sign(**byte))
+        .all(|byte| *byte == sign)
 }

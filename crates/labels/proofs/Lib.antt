@@ -1,2 +1,1 @@
 pub mod OwnerWritten
-pub mod WorkCodes

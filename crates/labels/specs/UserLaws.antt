@@ -1,8 +1,10 @@
 -- UHL1: its day and work code as they are read, and that what is written is read again.
 use Rattle.std.specs.Prelude.{◌≡◌, ℕ, ◌+◌, Bool, true, false, cond, List, [], ◌∷◌, Some, None, Ok, Err, codes, Result, refl}
 use Rattle.std.proofs.Common.{sym, ap, subst, arith}
+use Rattle.std.specs.Result.{result_map_both}
 use Rattle.std.specs.Str.{bytes_eq}
 use Rattle.std.proofs.lemmas.Slice.Eq.{bytes_eq-Decides}
+use Rattle.terms.specs.declared.cause.InputCause.{InputCause}
 use Rattle.terms.specs.declared.cause.InputCause.TheVariants as cause
 use Rattle.terms.specs.declared.service.Service.{Service}
 use Rattle.terms.specs.declared.service.Service.TheVariants.{Credits, Debits, FasterPayments}
@@ -20,7 +22,15 @@ use Rattle.labels.specs.declared.user.Uhl1.{Uhl1}
 use Rattle.labels.specs.declared.user.Uhl1Context.{Uhl1Context}
 use Rattle.labels.specs.Users.{labelled, only, uhl1, Uhl1Fits, uhl1_line, uhl1_place, work}
 
--- The work code.
+-- The work code: bytes that are the text are what the field says, as it is read and at its place in a line.
+
+pub only_read : (w : ℕ) (text bs : List ℕ) (r : Result (Unit {0}) InputCause) → r ≡ verdict (head text) bs → result_map_both (λ _. text) (λ e. e) r ≡ reading (only w text) bs
+unfolding reading
+only_read w text bs r e = rw e (by_same (bytes_eq bs text) refl)
+  where
+    by_same : (b : Bool) → bytes_eq bs text ≡ b → result_map_both (λ _. text) (λ e. e) (judged (cond b None (Some cause.NotListed)) (tt {0})) ≡ judged (cond b None (Some cause.NotListed)) bs
+    by_same true h = ap Ok (sym ((bytes_eq-Decides bs text).0 h))
+    by_same false h = refl
 
 pub only_says : (w from : ℕ) (text l : List ℕ) (r : Result (Unit {0}) FieldFault) → of_file (λ v. v) r ≡ placed in_field (from + 1) (verdict (head text) (part from (from + w) l)) → of_file (λ _. text) r ≡ field_reading fault_of (only w text) from l
 unfolding field_reading reading

@@ -1,5 +1,5 @@
 //! A field at its place in a line.
-ghost use Rattle.std.specs.Prelude.{◌≡◌, ℕ, ◌+◌, ◌-◌, ◌≤◌, List, length, Ok};
+ghost use Rattle.std.specs.Prelude.{◌≡◌, ℕ, ◌+◌, ◌-◌, ◌≤◌, List, length, Ok, IfOk};
 ghost use Rattle.std.specs.Result.{result_map_both};
 ghost use Rattle.lines.specs.Faults.{fault_of};
 ghost use Rattle.tables.specs.Kinds.{Allowed, Kind, Value, width};
@@ -31,7 +31,8 @@ pub trait Field {
     /// Reads the field after the first `from` bytes of a line: its fault gets the field's position.
     final fn at(&self, line: &[u8], from: usize) -> Result<Self::Said, FileFault>
         requires { from + width (kind self.now) ≤ length line.now }
-        ensures { result_map_both (says self.now) (λ e. e) result ≡ field_reading fault_of (kind self.now) from line.now }
+        ensures value { result_map_both (says self.now) (λ e. e) result ≡ field_reading fault_of (kind self.now) from line.now }
+        ensures allowed { IfOk result (λ v. Allowed (kind self.now) (says self.now v)) }
     {
         let bytes = part(line, from, from + self.places());
         self.read(bytes)

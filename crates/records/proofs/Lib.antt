@@ -1,1 +1,2 @@
 pub mod ContraReading
+pub mod Joining

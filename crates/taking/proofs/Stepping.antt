@@ -1,5 +1,5 @@
 -- The reading of a file goes on line by line as lines are taken off its bytes.
-use Rattle.std.proofs.Common.{◌≡◌, ℕ, ◌+◌, Bool, true, false, cond, eqb, List, ◌∷◌, ◌++◌, length, drop, Some, None, Ok, Err, Option, Result, sym, refl, ap, ◌∙◌, arith}
+use Rattle.std.proofs.Common.{◌≡◌, ℕ, ◌+◌, Bool, true, false, cond, eqb, List, ◌∷◌, ◌++◌, length, take, drop, Some, None, Ok, Err, Option, Result, sym, refl, ap, ◌∙◌, arith}
 use Rattle.std.specs.Result.{result_map_both}
 use Rattle.std.proofs.lemmas.List.{drop-drop, drop_at}
 use Rattle.std.proofs.lemmas.Bool.{cond-false, cond-true, eq-eqb, eqb-false, ne_eqb}
@@ -105,3 +105,22 @@ table_agrees g n s long bytes k t make add stood wide made ends = record {
   other = λ l tail is h. ap (λ (x : Next). line_said x l) (stood l tail is) ∙ line_wrong (stands t add) l (λ e. h (e ∙ wide));
   ends = ends;
 }
+
+-- a line that two readings read alike is taken alike
+pub taking_as : {X Y : Type 0} (n long : ℕ) (k : X → Y) (rd : List ℕ → Result X FileFault) (to : List ℕ → Result Y FileFault) (bytes : List ℕ) → ((l tail : List ℕ) → bytes ≡ l ++ 10 ∷ tail → length l ≡ long → to l ≡ result_map_both k (λ e. e) (rd l)) → taking n long to bytes ≡ result_map_both k (λ e. e) (taking n long rd bytes)
+taking_as {X} {Y} n long k rd to bytes same = ap (result_map_both (λ y. y) (λ e. numbered e n)) (all (feed_from 0 bytes) refl) ∙ put (cut_reading long rd bytes (feed_from 0 bytes))
+  where
+    put : (r : Result X FileFault) → result_map_both (λ y. y) (λ e. numbered e n) (result_map_both k (λ e. e) r) ≡ result_map_both k (λ e. e) (result_map_both (λ x. x) (λ e. numbered e n) r)
+    put (Ok x) = refl
+    put (Err e) = refl
+
+    sized : (m : ℕ) → feed_from 0 bytes ≡ Some m → (t : Bool) → eqb m long ≡ t → cond t (to (take long bytes)) (Err (Line WrongLength)) ≡ result_map_both k (λ e. e) (cond t (rd (take long bytes)) (Err (Line WrongLength)))
+    sized m e true q =
+        let f = feed_some bytes 0 m e in
+        let w = wide_line long f q in
+        ap to w.1 ∙ same f.front f.tail f.is w.0 ∙ ap (λ (l : List ℕ). result_map_both k (λ e. e) (rd l)) (sym w.1)
+    sized m e false q = refl
+
+    all : (o : Option ℕ) → feed_from 0 bytes ≡ o → cut_reading long to bytes o ≡ result_map_both k (λ e. e) (cut_reading long rd bytes o)
+    all None e = refl
+    all (Some m) e = sized m e (eqb m long) refl

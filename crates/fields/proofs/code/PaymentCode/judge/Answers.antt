@@ -1,15 +1,13 @@
-use Rattle.std.proofs.Common.{rules}
+use Rattle.std.proofs.Common.{◌∙◌}
+use Rattle.terms.specs.declared.cause.InputCause.TheVariants.{WrongCode}
 use Rattle.fields.specs.Judging.{code_text}
-use Rattle.fields.specs.Words.{code}
-use Rattle.fields.proofs.Contents.{read_verdict}
+use Rattle.fields.specs.Words.{codes_of}
+use Rattle.fields.proofs.Contents.{read_listed}
 use Rattle.fields.proofs.code.PaymentCode.judge.Goals as goal
-
-pub returns-in_err-read : goal.returns-in_err-read
-returns-in_err-read c =
-    let h = rw c.in_err-read.was at (read_verdict (code c.args.service) code_text _ c.read.result c.read.ensures) in
-    search rules
 
 pub returns : goal.returns
 returns c =
-    let h = rw c.in_ok-read.was at (read_verdict (code c.args.service) code_text _ c.read.result c.read.ensures) in
-    search rules
+    let cs = codes_of c.args.service in
+    let h = rw c.is_ok-had.ensures.value at c.judged.ensures in
+    let r = rw c.text.ensures at c.read.ensures in
+    h ∙ read_listed code_text 2 WrongCode cs (code_text c.args.self) c.read.result r

@@ -8,12 +8,12 @@ pub returns-in_err-at-7 : goal.returns-in_err-at-7
 returns-in_err-at-7 c =
     let p = err_from_is_err_and c.from_residual-in_err-at-7.result c.from_residual-in_err-at-7.ensures.1 in
     rw (p.1, p.2)
-    (past _ c.in_ok-at.ensures (past _ c.in_ok-user.ensures (past _ c.in_ok-at-2.ensures (past _ c.in_ok-at-3.ensures (past _ c.in_ok-version.ensures
-    (past _ c.in_ok-user_again.ensures (past _ c.in_ok-at-4.ensures (past _ c.in_ok-at-5.ensures (past _ c.in_ok-spare4.ensures (past _ c.in_ok-spare2.ensures
-    (past _ c.in_ok-creation.ensures (past _ c.in_ok-expiry.ensures (past _ c.in_ok-access.ensures (past _ c.in_ok-at-6.ensures (stops _ c.in_err-at-7.ensures)))))))))))))))
+    (past _ c.in_ok-at.ensures.value (past _ c.in_ok-user.ensures.value (past _ c.in_ok-at-2.ensures.value (past _ c.in_ok-at-3.ensures.value (past _ c.in_ok-version.ensures.value
+    (past _ c.in_ok-user_again.ensures.value (past _ c.in_ok-at-4.ensures.value (past _ c.in_ok-at-5.ensures.value (past _ c.in_ok-spare4.ensures.value (past _ c.in_ok-spare2.ensures.value
+    (past _ c.in_ok-creation.ensures.value (past _ c.in_ok-expiry.ensures.value (past _ c.in_ok-access.ensures.value (past _ c.in_ok-at-6.ensures.value (stops _ c.in_err-at-7.ensures.value)))))))))))))))
 
 pub returns : goal.returns
 returns c =
-    past _ c.in_ok-at.ensures (past _ c.in_ok-user.ensures (past _ c.in_ok-at-2.ensures (past _ c.in_ok-at-3.ensures (past _ c.in_ok-version.ensures
-    (past _ c.in_ok-user_again.ensures (past _ c.in_ok-at-4.ensures (past _ c.in_ok-at-5.ensures (past _ c.in_ok-spare4.ensures (past _ c.in_ok-spare2.ensures
-    (past _ c.in_ok-creation.ensures (past _ c.in_ok-expiry.ensures (past _ c.in_ok-access.ensures (past _ c.in_ok-at-6.ensures (past _ c.in_ok-at-7.ensures refl))))))))))))))
+    past _ c.in_ok-at.ensures.value (past _ c.in_ok-user.ensures.value (past _ c.in_ok-at-2.ensures.value (past _ c.in_ok-at-3.ensures.value (past _ c.in_ok-version.ensures.value
+    (past _ c.in_ok-user_again.ensures.value (past _ c.in_ok-at-4.ensures.value (past _ c.in_ok-at-5.ensures.value (past _ c.in_ok-spare4.ensures.value (past _ c.in_ok-spare2.ensures.value
+    (past _ c.in_ok-creation.ensures.value (past _ c.in_ok-expiry.ensures.value (past _ c.in_ok-access.ensures.value (past _ c.in_ok-at-6.ensures.value (past _ c.in_ok-at-7.ensures.value refl))))))))))))))

@@ -8,10 +8,10 @@ pub returns-in_err-at-9 : goal.returns-in_err-at-9
 returns-in_err-at-9 c =
     let p = err_from_is_err_and c.from_residual-in_err-at-9.result c.from_residual-in_err-at-9.ensures.1 in
     rw (p.1, p.2)
-    (past _ c.in_ok-at.ensures (past _ c.in_ok-processing.ensures (past _ c.in_ok-at-2.ensures (past _ c.in_ok-at-3.ensures (past _ c.in_ok-at-4.ensures (past _ c.in_ok-at-5.ensures
-    (past _ c.in_ok-number.ensures (past _ c.in_ok-at-6.ensures (past _ c.in_ok-at-7.ensures (past _ c.in_ok-at-8.ensures (stops _ c.in_err-at-9.ensures)))))))))))
+    (past _ c.in_ok-at.ensures.value (past _ c.in_ok-processing.ensures.value (past _ c.in_ok-at-2.ensures.value (past _ c.in_ok-at-3.ensures.value (past _ c.in_ok-at-4.ensures.value (past _ c.in_ok-at-5.ensures.value
+    (past _ c.in_ok-number.ensures.value (past _ c.in_ok-at-6.ensures.value (past _ c.in_ok-at-7.ensures.value (past _ c.in_ok-at-8.ensures.value (stops _ c.in_err-at-9.ensures.value)))))))))))
 
 pub returns : goal.returns
 returns c =
-    past _ c.in_ok-at.ensures (past _ c.in_ok-processing.ensures (past _ c.in_ok-at-2.ensures (past _ c.in_ok-at-3.ensures (past _ c.in_ok-at-4.ensures (past _ c.in_ok-at-5.ensures
-    (past _ c.in_ok-number.ensures (past _ c.in_ok-at-6.ensures (past _ c.in_ok-at-7.ensures (past _ c.in_ok-at-8.ensures (past _ c.in_ok-at-9.ensures refl))))))))))
+    past _ c.in_ok-at.ensures.value (past _ c.in_ok-processing.ensures.value (past _ c.in_ok-at-2.ensures.value (past _ c.in_ok-at-3.ensures.value (past _ c.in_ok-at-4.ensures.value (past _ c.in_ok-at-5.ensures.value
+    (past _ c.in_ok-number.ensures.value (past _ c.in_ok-at-6.ensures.value (past _ c.in_ok-at-7.ensures.value (past _ c.in_ok-at-8.ensures.value (past _ c.in_ok-at-9.ensures.value refl))))))))))

@@ -2,7 +2,7 @@ use Rattle.std.proofs.Common.{ℕ, List, ap, ◌∙◌}
 use Rattle.fields.specs.Judging.{verdict}
 use Rattle.fields.specs.Words.{head}
 use Rattle.labels.specs.Users.{work}
-use Rattle.labels.proofs.WorkCodes.{only_read}
+use Rattle.labels.specs.UserLaws.{only_read}
 use Rattle.labels.proofs.user_line.WorkCodeField.read.Goals as goal
 
 pub returns : goal.returns

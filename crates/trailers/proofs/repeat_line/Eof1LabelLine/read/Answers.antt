@@ -8,46 +8,46 @@ pub returns-in_err-at-12 : goal.returns-in_err-at-12
 returns-in_err-at-12 c =
     let p = err_from_is_err_and c.from_residual-in_err-at-12.result c.from_residual-in_err-at-12.ensures.1 in
     rw (p.1, p.2)
-    (past _ c.in_ok-at.ensures (past _ c.in_ok-at-2.ensures (past _ c.in_ok-at-3.ensures (past _ c.in_ok-at-4.ensures (past _ c.in_ok-at-5.ensures
-    (past _ c.in_ok-at-6.ensures (past _ c.in_ok-at-7.ensures (past _ c.in_ok-at-8.ensures (past _ c.in_ok-at-9.ensures (past _ c.in_ok-at-10.ensures
-    (past _ c.in_ok-at-11.ensures (stops _ c.in_err-at-12.ensures))))))))))))
+    (past _ c.in_ok-at.ensures.value (past _ c.in_ok-at-2.ensures.value (past _ c.in_ok-at-3.ensures.value (past _ c.in_ok-at-4.ensures.value (past _ c.in_ok-at-5.ensures.value
+    (past _ c.in_ok-at-6.ensures.value (past _ c.in_ok-at-7.ensures.value (past _ c.in_ok-at-8.ensures.value (past _ c.in_ok-at-9.ensures.value (past _ c.in_ok-at-10.ensures.value
+    (past _ c.in_ok-at-11.ensures.value (stops _ c.in_err-at-12.ensures.value))))))))))))
 
 pub returns-in_err-at-13 : goal.returns-in_err-at-13
 returns-in_err-at-13 c =
     let p = err_from_is_err_and c.from_residual-in_err-at-13.result c.from_residual-in_err-at-13.ensures.1 in
     rw (p.1, p.2)
-    (past _ c.in_ok-at.ensures (past _ c.in_ok-at-2.ensures (past _ c.in_ok-at-3.ensures (past _ c.in_ok-at-4.ensures (past _ c.in_ok-at-5.ensures
-    (past _ c.in_ok-at-6.ensures (past _ c.in_ok-at-7.ensures (past _ c.in_ok-at-8.ensures (past _ c.in_ok-at-9.ensures (past _ c.in_ok-at-10.ensures
-    (past _ c.in_ok-at-11.ensures (past _ c.in_ok-at-12.ensures (stops _ c.in_err-at-13.ensures)))))))))))))
+    (past _ c.in_ok-at.ensures.value (past _ c.in_ok-at-2.ensures.value (past _ c.in_ok-at-3.ensures.value (past _ c.in_ok-at-4.ensures.value (past _ c.in_ok-at-5.ensures.value
+    (past _ c.in_ok-at-6.ensures.value (past _ c.in_ok-at-7.ensures.value (past _ c.in_ok-at-8.ensures.value (past _ c.in_ok-at-9.ensures.value (past _ c.in_ok-at-10.ensures.value
+    (past _ c.in_ok-at-11.ensures.value (past _ c.in_ok-at-12.ensures.value (stops _ c.in_err-at-13.ensures.value)))))))))))))
 
 pub returns-in_err-at-14 : goal.returns-in_err-at-14
 returns-in_err-at-14 c =
     let p = err_from_is_err_and c.from_residual-in_err-at-14.result c.from_residual-in_err-at-14.ensures.1 in
     rw (p.1, p.2)
-    (past _ c.in_ok-at.ensures (past _ c.in_ok-at-2.ensures (past _ c.in_ok-at-3.ensures (past _ c.in_ok-at-4.ensures (past _ c.in_ok-at-5.ensures
-    (past _ c.in_ok-at-6.ensures (past _ c.in_ok-at-7.ensures (past _ c.in_ok-at-8.ensures (past _ c.in_ok-at-9.ensures (past _ c.in_ok-at-10.ensures
-    (past _ c.in_ok-at-11.ensures (past _ c.in_ok-at-12.ensures (past _ c.in_ok-at-13.ensures (stops _ c.in_err-at-14.ensures))))))))))))))
+    (past _ c.in_ok-at.ensures.value (past _ c.in_ok-at-2.ensures.value (past _ c.in_ok-at-3.ensures.value (past _ c.in_ok-at-4.ensures.value (past _ c.in_ok-at-5.ensures.value
+    (past _ c.in_ok-at-6.ensures.value (past _ c.in_ok-at-7.ensures.value (past _ c.in_ok-at-8.ensures.value (past _ c.in_ok-at-9.ensures.value (past _ c.in_ok-at-10.ensures.value
+    (past _ c.in_ok-at-11.ensures.value (past _ c.in_ok-at-12.ensures.value (past _ c.in_ok-at-13.ensures.value (stops _ c.in_err-at-14.ensures.value))))))))))))))
 
 pub returns-in_err-at-15 : goal.returns-in_err-at-15
 returns-in_err-at-15 c =
     let p = err_from_is_err_and c.from_residual-in_err-at-15.result c.from_residual-in_err-at-15.ensures.1 in
     rw (p.1, p.2)
-    (past _ c.in_ok-at.ensures (past _ c.in_ok-at-2.ensures (past _ c.in_ok-at-3.ensures (past _ c.in_ok-at-4.ensures (past _ c.in_ok-at-5.ensures
-    (past _ c.in_ok-at-6.ensures (past _ c.in_ok-at-7.ensures (past _ c.in_ok-at-8.ensures (past _ c.in_ok-at-9.ensures (past _ c.in_ok-at-10.ensures
-    (past _ c.in_ok-at-11.ensures (past _ c.in_ok-at-12.ensures (past _ c.in_ok-at-13.ensures (past _ c.in_ok-at-14.ensures (stops _ c.in_err-at-15.ensures)))))))))))))))
+    (past _ c.in_ok-at.ensures.value (past _ c.in_ok-at-2.ensures.value (past _ c.in_ok-at-3.ensures.value (past _ c.in_ok-at-4.ensures.value (past _ c.in_ok-at-5.ensures.value
+    (past _ c.in_ok-at-6.ensures.value (past _ c.in_ok-at-7.ensures.value (past _ c.in_ok-at-8.ensures.value (past _ c.in_ok-at-9.ensures.value (past _ c.in_ok-at-10.ensures.value
+    (past _ c.in_ok-at-11.ensures.value (past _ c.in_ok-at-12.ensures.value (past _ c.in_ok-at-13.ensures.value (past _ c.in_ok-at-14.ensures.value (stops _ c.in_err-at-15.ensures.value)))))))))))))))
 
 pub returns-in_err-at-16 : goal.returns-in_err-at-16
 returns-in_err-at-16 c =
     let p = err_from_is_err_and c.from_residual-in_err-at-16.result c.from_residual-in_err-at-16.ensures.1 in
     rw (p.1, p.2)
-    (past _ c.in_ok-at.ensures (past _ c.in_ok-at-2.ensures (past _ c.in_ok-at-3.ensures (past _ c.in_ok-at-4.ensures (past _ c.in_ok-at-5.ensures
-    (past _ c.in_ok-at-6.ensures (past _ c.in_ok-at-7.ensures (past _ c.in_ok-at-8.ensures (past _ c.in_ok-at-9.ensures (past _ c.in_ok-at-10.ensures
-    (past _ c.in_ok-at-11.ensures (past _ c.in_ok-at-12.ensures (past _ c.in_ok-at-13.ensures (past _ c.in_ok-at-14.ensures
-    (past _ c.in_ok-at-15.ensures (stops _ c.in_err-at-16.ensures))))))))))))))))
+    (past _ c.in_ok-at.ensures.value (past _ c.in_ok-at-2.ensures.value (past _ c.in_ok-at-3.ensures.value (past _ c.in_ok-at-4.ensures.value (past _ c.in_ok-at-5.ensures.value
+    (past _ c.in_ok-at-6.ensures.value (past _ c.in_ok-at-7.ensures.value (past _ c.in_ok-at-8.ensures.value (past _ c.in_ok-at-9.ensures.value (past _ c.in_ok-at-10.ensures.value
+    (past _ c.in_ok-at-11.ensures.value (past _ c.in_ok-at-12.ensures.value (past _ c.in_ok-at-13.ensures.value (past _ c.in_ok-at-14.ensures.value
+    (past _ c.in_ok-at-15.ensures.value (stops _ c.in_err-at-16.ensures.value))))))))))))))))
 
 pub returns : goal.returns
 returns c =
-    past _ c.in_ok-at.ensures (past _ c.in_ok-at-2.ensures (past _ c.in_ok-at-3.ensures (past _ c.in_ok-at-4.ensures (past _ c.in_ok-at-5.ensures
-    (past _ c.in_ok-at-6.ensures (past _ c.in_ok-at-7.ensures (past _ c.in_ok-at-8.ensures (past _ c.in_ok-at-9.ensures (past _ c.in_ok-at-10.ensures
-    (past _ c.in_ok-at-11.ensures (past _ c.in_ok-at-12.ensures (past _ c.in_ok-at-13.ensures (past _ c.in_ok-at-14.ensures (past _ c.in_ok-at-15.ensures
-    (past _ c.in_ok-at-16.ensures (refl))))))))))))))))
+    past _ c.in_ok-at.ensures.value (past _ c.in_ok-at-2.ensures.value (past _ c.in_ok-at-3.ensures.value (past _ c.in_ok-at-4.ensures.value (past _ c.in_ok-at-5.ensures.value
+    (past _ c.in_ok-at-6.ensures.value (past _ c.in_ok-at-7.ensures.value (past _ c.in_ok-at-8.ensures.value (past _ c.in_ok-at-9.ensures.value (past _ c.in_ok-at-10.ensures.value
+    (past _ c.in_ok-at-11.ensures.value (past _ c.in_ok-at-12.ensures.value (past _ c.in_ok-at-13.ensures.value (past _ c.in_ok-at-14.ensures.value (past _ c.in_ok-at-15.ensures.value
+    (past _ c.in_ok-at-16.ensures.value (refl))))))))))))))))
