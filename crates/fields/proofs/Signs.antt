@@ -19,9 +19,9 @@ same_first f (b ∷ bs) h =
       | inr e ↦ rw e (same_first f bs (rw e at h))
     ]
 
--- where the first sign stands, as `position` answers it
-abbrev pub sign_place : List ℕ → Option ℕ
-sign_place bs = cond (ltb (position_or_len is_sign_byte bs) (length bs)) (Some (position_or_len is_sign_byte bs)) None
+-- where the first byte stands that passes a test, as `position` answers it
+abbrev pub place_of : (ℕ → Bool) → List ℕ → Option ℕ
+place_of test bs = cond (ltb (position_or_len test bs) (length bs)) (Some (position_or_len test bs)) None
 
 placed : (b : Bool) (p i : ℕ) → cond b (Some p) None ≡ Some i → (b ≡ true) × (p ≡ i)
 placed true p i h = (refl, cc)
@@ -51,16 +51,16 @@ no_sign (b ∷ bs) h =
     ]
 
 -- those after the first are compared with it
-pub same_after : (bs : List ℕ) (i : ℕ) → sign_place bs ≡ Some i → same_signs bs ≡ each (λ b. eqb b (get_or bs i 0)) (filter is_sign_byte (drop (i + 1) bs))
+pub same_after : (bs : List ℕ) (i : ℕ) → place_of is_sign_byte bs ≡ Some i → same_signs bs ≡ each (λ b. eqb b (get_or bs i 0)) (filter is_sign_byte (drop (i + 1) bs))
 same_after bs i h =
     let p = placed (ltb (position_or_len is_sign_byte bs) (length bs)) (position_or_len is_sign_byte bs) i h in
     subst (λ j. same_signs bs ≡ each (λ b. eqb b (get_or bs j 0)) (filter is_sign_byte (drop (j + 1) bs))) p.1 (ap all_same (first_sign bs (ltb-true _ _ p.0)))
 
 -- by any names of the first sign and of what is behind it
-pub same_behind : (bs : List ℕ) (i : ℕ) (sign : ℕ) (behind : List ℕ) → sign_place bs ≡ Some i → sign ≡ get_or bs i 0 → behind ≡ drop (i + 1) bs → each (λ b. eqb b sign) (filter is_sign_byte behind) ≡ same_signs bs
+pub same_behind : (bs : List ℕ) (i : ℕ) (sign : ℕ) (behind : List ℕ) → place_of is_sign_byte bs ≡ Some i → sign ≡ get_or bs i 0 → behind ≡ drop (i + 1) bs → each (λ b. eqb b sign) (filter is_sign_byte behind) ≡ same_signs bs
 same_behind bs i sign behind h s d = rw (s, d) (sym (same_after bs i h))
 
-pub same_without : (bs : List ℕ) → sign_place bs ≡ None → same_signs bs ≡ true
+pub same_without : (bs : List ℕ) → place_of is_sign_byte bs ≡ None → same_signs bs ≡ true
 same_without bs h =
     let none = unplaced (ltb (position_or_len is_sign_byte bs) (length bs)) (position_or_len is_sign_byte bs) h in
     ap all_same (no_sign bs (ltb-false _ _ none))
@@ -74,10 +74,7 @@ right_signs (b ∷ bs) =
       | inr e ↦ rw e refl
     ]
 
--- where the first byte that is no space stands, as `position` answers it
-abbrev pub right_place : List ℕ → Option ℕ
-right_place bs = cond (ltb (position_or_len (λ b. not (is_space b)) bs) (length bs)) (Some (position_or_len (λ b. not (is_space b)) bs)) None
-
+-- the signs of a serial begin where its spaces end
 right_at : (bs : List ℕ) → at_right bs ≡ each is_sign_byte (drop (position_or_len (λ b. not (is_space b)) bs) bs)
 right_at [] = refl
 right_at (b ∷ bs) =
@@ -86,13 +83,13 @@ right_at (b ∷ bs) =
       | inr e ↦ rw e refl
     ]
 
-pub right_behind : (bs : List ℕ) (i : ℕ) (behind : List ℕ) → right_place bs ≡ Some i → behind ≡ drop i bs → each is_sign_byte behind ≡ at_right bs
+pub right_behind : (bs : List ℕ) (i : ℕ) (behind : List ℕ) → place_of (λ b. not (is_space b)) bs ≡ Some i → behind ≡ drop i bs → each is_sign_byte behind ≡ at_right bs
 right_behind bs i behind h d =
     let n = position_or_len (λ b. not (is_space b)) bs in
     let p = placed (ltb n (length bs)) n i h in
     rw d (sym (right_at bs ∙ ap (λ j. each is_sign_byte (drop j bs)) p.1))
 
-pub right_without : (bs : List ℕ) → right_place bs ≡ None → at_right bs ≡ true
+pub right_without : (bs : List ℕ) → place_of (λ b. not (is_space b)) bs ≡ None → at_right bs ≡ true
 right_without bs h =
     let n = position_or_len (λ b. not (is_space b)) bs in
     let none = unplaced (ltb n (length bs)) n h in
