@@ -1,2 +1,3 @@
 pub mod Contents
+pub mod ReadingBack
 pub mod Signs

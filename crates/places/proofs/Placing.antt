@@ -2,10 +2,10 @@
 use Rattle.std.proofs.Common.{◌≡◌, ℕ, MatchResult, IsErrAnd, IfOk, List, length, Some, None, Ok, Err, Option, Result, refl, ap, subst, sym, ◌∙◌}
 use Rattle.std.specs.Result.{result_map_both}
 use Rattle.terms.specs.declared.cause.InputCause.{InputCause}
-use Rattle.tables.specs.Kinds.{Allowed, Kind, Rule, Value, broken, judge, says, width}
+use Rattle.tables.specs.Kinds.{Allowed, Kind, Rule, Value, broken, says, width}
 use Rattle.tables.specs.Kinds.Kind.{fixed, letters}
 use Rattle.tables.specs.Walks.{after, judged, placed, reading}
-use Rattle.tables.proofs.Judging.{judged_allowed}
+use Rattle.fields.proofs.ReadingBack.{reads_back}
 use Rattle.fields.specs.Judging.{verdict}
 
 -- a cause that gets its position, in whatever a fault is
@@ -34,20 +34,9 @@ letters_say w rs xs {r = r} h e = as_said r ∙ e ∙ ap (λ (v : Result (Unit {
     by_verdict None = refl
     by_verdict (Some c) = refl
 
-no_cause : {V : Type 0} (o : Option InputCause) (x v : V) → judged o x ≡ Ok v → (o ≡ None) × (x ≡ v)
-no_cause None x v h = (refl, cc)
-no_cause (Some c) x v h = cc
-
--- what bytes of a kind's width say is allowed by it
-pub reading_allowed : (k : Kind) (bs : List ℕ) (v : Value k) → length bs ≡ width k → reading k bs ≡ Ok v → Allowed k v
-unfolding reading
-reading_allowed k bs v wide read =
-    let p = no_cause (judge k bs) (says k bs) v read in
-    subst (λ (w : Value k). Allowed k w) p.1 (judged_allowed k bs wide p.0)
-
--- and stays so at the field's place in its line
+-- what is read is allowed by its kind, at its place in the line too
 pub placed_allowed : {A E : Type 0} (k : Kind) (says : A → Value k) (bs : List ℕ) (P : InputCause → E → Type 0) (r : Result A InputCause) (q : Result A E) → length bs ≡ width k → result_map_both says (λ e. e) r ≡ reading k bs →
     MatchResult r (λ x. q ≡ Ok x) (λ c. IsErrAnd q (P c)) → IfOk q (λ v. Allowed k (says v))
-placed_allowed k says bs P (Ok x) q wide h m = subst (λ o. IfOk o (λ v. Allowed k (says v))) (sym m) (reading_allowed k bs (says x) wide (sym h))
+placed_allowed k says bs P (Ok x) q wide h m = subst (λ o. IfOk o (λ v. Allowed k (says v))) (sym m) ((reads_back k).writes bs (says x) wide (sym h)).0
 placed_allowed k says bs P (Err c) (Ok x) wide h m = absurd m
 placed_allowed k says bs P (Err c) (Err e) wide h m = tt

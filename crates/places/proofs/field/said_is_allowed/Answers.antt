@@ -1,5 +1,5 @@
-use Rattle.places.proofs.Placing.{reading_allowed}
+use Rattle.fields.proofs.ReadingBack.{reads_back}
 use Rattle.places.proofs.field.said_is_allowed.Goals as goal
 
 pub returns : goal.returns
-returns g c f v bs wide read = reading_allowed (g.F.Field.kind f) bs (g.F.Field.says f v) wide read
+returns g c f v bs wide read = ((reads_back (g.F.Field.kind f)).writes bs (g.F.Field.says f v) wide read).0
